@@ -1,0 +1,71 @@
+-- The grammar of the units `int main(void) { return E; }`, with the core of each (ISO/IEC 9899:2024,
+-- 6.5.6, 6.5.7 and 6.9.2), and the token with which no such unit can go on.
+use Rattle.std.specs.Prelude.{◌≡◌, ◌⊎◌, ℕ, ◌+◌, ◌-◌, ◌*◌, ◌<◌, ◌≤◌, pos, true, List, [], ◌∷◌, ◌++◌, map, take, length, codes}
+use Rattle.std.specs.Fmt.{decimal}
+use Rattle.cake_base.specs.declared.places.Place.{Place}
+use Rattle.c_model.specs.declared.numbers.BinOp.{BinOp}
+use Rattle.c_model.specs.declared.numbers.BinOp.TheVariants.{Mul, Add, Sub}
+use Rattle.c_model.specs.FirstTokens.{Token}
+use Rattle.c_model.specs.Core.{Expr, Constant, Binary, Return, Function, Core}
+
+-- a constant is spelled in decimal, and is one of the values of int
+abbrev pub IsConstant : List ℕ → ℕ → Type 0
+IsConstant text number = (text ≡ decimal number) × (number ≤ 2147483647)
+
+mutual
+  -- sum = product | sum ("+" | "-") product
+  pub data IsSum : List Token → Expr → Type 0 where
+    one_product : (ts : List Token) (e : Expr) → IsProduct ts e → IsSum ts e
+    added : (ts : List Token) (left right : List Token) (sign : Token) (a b : Expr) → sign.text ≡ codes "+" → IsSum left a → IsProduct right b → ts ≡ left ++ sign ∷ right → IsSum ts (Binary Add a b sign.place)
+    subtracted : (ts : List Token) (left right : List Token) (sign : Token) (a b : Expr) → sign.text ≡ codes "-" → IsSum left a → IsProduct right b → ts ≡ left ++ sign ∷ right → IsSum ts (Binary Sub a b sign.place)
+
+  -- product = primary | product "*" primary
+  pub data IsProduct : List Token → Expr → Type 0 where
+    one_primary : (ts : List Token) (e : Expr) → IsPrimary ts e → IsProduct ts e
+    multiplied : (ts : List Token) (left right : List Token) (sign : Token) (a b : Expr) → sign.text ≡ codes "*" → IsProduct left a → IsPrimary right b → ts ≡ left ++ sign ∷ right → IsProduct ts (Binary Mul a b sign.place)
+
+  -- primary = constant | "(" sum ")"
+  pub data IsPrimary : List Token → Expr → Type 0 where
+    constant : (ts : List Token) (token : Token) (number : ℕ) → IsConstant token.text number → ts ≡ token ∷ [] → IsPrimary ts (Constant (pos number) token.place)
+    parenthesised : (ts : List Token) (open_ close : Token) (inner : List Token) (e : Expr) → open_.text ≡ codes "(" → close.text ≡ codes ")" → IsSum inner e → ts ≡ open_ ∷ (inner ++ close ∷ []) → IsPrimary ts e
+
+-- the words of a unit before its `return`
+abbrev pub head_words : List (List ℕ)
+head_words = codes "int" ∷ codes "main" ∷ codes "(" ∷ codes "void" ∷ codes ")" ∷ codes "{" ∷ []
+
+-- the core of a unit that returns this value
+abbrev pub returning : Expr → Place → Core
+returning value place = record { functions = record { name = codes "main"; is_external = true; body = Return value place ∷ [] } ∷ [] }
+
+-- unit = "int" "main" "(" "void" ")" "{" "return" sum ";" "}"
+pub record IsUnit (ts : List Token) (core : Core) : Type 0 where
+  pub head : List Token
+  pub return_ : Token
+  pub sum : List Token
+  pub semicolon : Token
+  pub brace : Token
+  pub value : Expr
+  pub parts : ts ≡ head ++ return_ ∷ (sum ++ semicolon ∷ brace ∷ [])
+  pub head_is : map (λ t. t.text) head ≡ head_words
+  pub return_is : return_.text ≡ codes "return"
+  pub sum_is : IsSum sum value
+  pub semicolon_is : semicolon.text ≡ codes ";"
+  pub brace_is : brace.text ≡ codes "}"
+  pub core_is : core ≡ returning value return_.place
+
+-- some unit begins with these tokens
+abbrev pub CanGoOn : List Token → Type 0
+CanGoOn ts = (rest : List Token) × (core : Core) × IsUnit (ts ++ rest) core
+
+-- why reading stops at the token of a rank: no unit goes on with it; or it is the hundred and first; or
+-- the tokens are at their end and no unit yet
+pub data StopsFor (ts : List Token) (rank : ℕ) : Type 0 where
+  no_unit_goes_on : rank < length ts → (CanGoOn (take (1 + rank) ts) → ⊥) → StopsFor ts rank
+  too_many : rank < length ts → rank ≡ 100 → StopsFor ts rank
+  too_few : rank ≡ length ts → ((core : Core) → IsUnit ts core → ⊥) → StopsFor ts rank
+
+-- the first token at which reading stops has this rank
+pub record StopsAt (ts : List Token) (rank : ℕ) : Type 0 where
+  pub before : CanGoOn (take rank ts)
+  pub count : rank ≤ 100
+  pub cause : StopsFor ts rank

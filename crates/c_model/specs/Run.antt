@@ -1,0 +1,90 @@
+-- Runs: what can be seen of them, and how their steps follow one another (ISO/IEC 9899:2024, 5.1.2.4).
+use Rattle.std.specs.Prelude.{ℕ, zero, suc, ℤ, List, [], Option, None, Result, Ok, Err}
+use Rattle.cake_base.specs.declared.places.Place.{Place}
+use Rattle.c_model.specs.declared.outcomes.Cause.{Cause}
+use Rattle.c_model.specs.Memory.{Memory, no_blocks, Value}
+
+-- what an outside function is handed: an integer, a null pointer, a handle, the handle of an outside
+-- object, or the string at a pointer
+pub data Argument : Type 0 where
+  Integer : (value : ℤ) → Argument
+  NullPointer : Argument
+  HandleNumber : (number : ℕ) → Argument
+  HandleOf : (name : List ℕ) → Argument
+  StringAt : (bytes : List ℕ) → Argument
+
+-- a call of an outside function, with the integer of the world that it took, where it takes one
+pub record Event : Type 0 where
+  pub name : List ℕ
+  pub arguments : List Argument
+  pub answer : Option ℤ
+
+-- a heap block that was taken, with its size, or released
+pub data Move : Type 0 where
+  Took : (number size : ℕ) → Move
+  Freed : (number : ℕ) → Move
+
+-- how a run ends; Out where it wants a turn and has none left. The text's runs know no places
+pub data Ending : Type 0 where
+  Returned : (value : Option Value) → Ending
+  Exited : (status : ℤ) → Ending
+  Aborted : Ending
+  Leaves : Ending
+  Out : Ending
+  Undefined : (cause : Cause) (place : Option Place) → Ending
+
+-- what can be seen of a run
+pub record Run : Type 0 where
+  pub events : List Event
+  pub moves : List Move
+  pub ending : Ending
+
+-- what a run has left, and what it has done: turns, the answers of the outside that aren't taken yet,
+-- memory, events and moves
+pub record State : Type 0 where
+  pub turns : ℕ
+  pub world : List ℤ
+  pub memory : Memory
+  pub events : List Event
+  pub moves : List Move
+
+abbrev pub start : (turns : ℕ) → (world : List ℤ) → State
+start turns world = record { turns = turns; world = world; memory = no_blocks; events = []; moves = [] }
+
+-- a part of a run goes on with a value, or the run ends in it
+pub data Step (A : Type 0) : Type 0 where
+  Goes : (value : A) (state : State) → Step A
+  Ends : (ending : Ending) (state : State) → Step A
+
+-- one part after another
+abbrev pub follow : {A B : Type 0} → Step A → (A → State → Step B) → Step B
+follow (Goes value state) next = next value state
+follow (Ends ending state) next = Ends ending state
+
+-- the value of an operation, or the end of the run at this place
+abbrev pub given : {A : Type 0} → Option Place → Result A Cause → State → Step A
+given place (Ok value) state = Goes value state
+given place (Err cause) state = Ends (Undefined cause place) state
+
+-- takes one of the turns that are left, or ends the run where none is
+abbrev pub turn_of : {A : Type 0} → (turns : ℕ) → State → (State → Step A) → Step A
+turn_of zero state next = Ends Out state
+turn_of (suc turns) state next = next (record state { turns = turns })
+
+abbrev pub turn : {A : Type 0} → State → (State → Step A) → Step A
+turn state next = turn_of state.turns state next
+
+-- how control leaves a statement: by its end, or with the value of a return, where there is one
+pub data Flow : Type 0 where
+  Falls : Flow
+  Gives : (value : Option Value) → Flow
+
+-- what a call answers: nothing, where control fell off the end of the function
+abbrev pub answer_of : Flow → Option Value
+answer_of Falls = None
+answer_of (Gives value) = value
+
+-- what can be seen of the run of an entry
+abbrev pub run_of : Step (Option Value) → Run
+run_of (Goes value state) = record { events = state.events; moves = state.moves; ending = Returned value }
+run_of (Ends ending state) = record { events = state.events; moves = state.moves; ending = ending }
