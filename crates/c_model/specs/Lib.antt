@@ -1,2 +1,5 @@
 pub mod Operations
+pub mod Conversions
+pub mod Types
+pub mod TypesCode
 pub mod PpTokens

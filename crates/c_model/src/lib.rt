@@ -7,3 +7,4 @@
 pub mod numbers;
 pub mod outcomes;
 pub mod tokens;
+pub mod types;
