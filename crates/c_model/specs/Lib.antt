@@ -1,5 +1,8 @@
 pub mod Operations
 pub mod Place
+pub mod Conversions
+pub mod Types
+pub mod TypesCode
 pub mod PpTokens
 pub mod Memory
 pub mod Run

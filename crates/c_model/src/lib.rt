@@ -8,3 +8,4 @@ pub mod laws;
 pub mod numbers;
 pub mod outcomes;
 pub mod tokens;
+pub mod types;
