@@ -4,7 +4,7 @@ use Rattle.std.specs.Prelude.{codes}
 use Rattle.c_model.specs.Signs89.{sign_text}
 use Rattle.c_model.specs.Program89.{Expr, Constant, Binary, Stat, Return, Storage, Plain, Static, Extern, Outer, Prototype, Function, Program, Typed}
 use Rattle.c_model.specs.Spelling89.{expr_text, stat_text, stats_text, storage_text, declaration_text, outer_text, outers_text, static_text, function_text, functions_text, canonical}
-use Rattle.c_model.specs.Reading89.{ReadsExpr, reads_constant, reads_binary, ReadsStat, reads_return, ReadsStats, reads_no_stat, reads_stats, ReadsStorage, reads_plain, reads_static, reads_extern, ReadsOuter, reads_prototype, ReadsOuters, reads_no_outer, reads_outers, ReadsFunction, ReadsFunctions, reads_no_function, reads_functions, ReadsProgram, Reads89, storage_of}
+use Rattle.c_model.specs.Reading89.{ReadsExpr, reads_constant, reads_binary, ReadsStat, reads_return, ReadsStats, reads_no_stat, reads_stats, ReadsStorage, reads_plain, reads_static, reads_extern, ReadsOuter, reads_prototype, ReadsOuters, reads_no_outer, reads_outers, ReadsFunction, ReadsFunctions, reads_no_function, reads_functions, Reads89, storage_of}
 
 expr_reads : (e : Expr) → ReadsExpr (expr_text e) e
 expr_reads (Constant number) = reads_constant (expr_text (Constant number)) number refl

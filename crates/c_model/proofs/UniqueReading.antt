@@ -1,5 +1,5 @@
 -- No piece of a text begins another piece of its kind in the same place, so a text reads as one program.
-use Rattle.std.proofs.Common.{◌≡◌, ℕ, zero, suc, ◌+◌, ◌-◌, ◌*◌, ◌/◌, ◌%◌, ◌^◌, ◌<◌, ◌≤◌, ◌==◌, List, [], ◌∷◌, ◌++◌, length, Bool, true, false, not, ◌&&◌, Option, Some, None, if◌then◌else◌, refl, sym, ap, ◌∙◌, subst, arith, append_assoc, length-append}
+use Rattle.std.proofs.Common.{◌≡◌, ℕ, ◌+◌, ◌-◌, ◌*◌, ◌%◌, ◌^◌, ◌<◌, ◌==◌, List, [], ◌∷◌, ◌++◌, length, Bool, true, false, not, Option, Some, None, if◌then◌else◌, refl, sym, ap, ◌∙◌, arith, append_assoc, length-append}
 use Rattle.std.specs.Prelude.{codes}
 use Rattle.std.specs.Fmt.{decimal}
 use Rattle.std.specs.Str.{bytes_eq}
@@ -9,8 +9,8 @@ use Rattle.c_model.specs.declared.numbers.BinOp.{BinOp}
 use Rattle.c_model.specs.declared.numbers.BinOp.TheVariants.{Mul, Div, Rem, Add, Sub, ShiftLeft, ShiftRight, Less, Greater, LessEqual, GreaterEqual, Equal, NotEqual, BitAnd, BitXor, BitOr}
 use Rattle.c_model.specs.FirstTokens.{is_digit, is_word_byte, begins_with}
 use Rattle.c_model.specs.Signs89.{sign_text}
-use Rattle.c_model.specs.Program89.{Expr, Constant, Binary, Stat, Return, Storage, Plain, Static, Extern, Outer, Prototype, Function, Program, Typed, TypedExpr, TypedStats, TypedOuters, TypedFunctions, AllBytes, IsName}
-use Rattle.c_model.specs.Spelling89.{expr_text, stat_text, stats_text, storage_text, declaration_text, outer_text, outers_text, static_text, function_text, functions_text, canonical}
+use Rattle.c_model.specs.Program89.{Expr, Constant, Binary, Stat, Return, Storage, Plain, Static, Extern, Outer, Prototype, Function, Program, TypedExpr, TypedStats, TypedOuters, TypedFunctions, AllBytes, IsName}
+use Rattle.c_model.specs.Spelling89.{expr_text, stat_text, stats_text, storage_text, declaration_text, outer_text, outers_text, static_text, function_text, functions_text}
 use Rattle.c_model.specs.Reading89.{Reads89}
 use Rattle.c_model.proofs.Spelled.{program_spelled}
 

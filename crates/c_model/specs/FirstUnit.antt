@@ -1,12 +1,11 @@
 -- The grammar of the units `int main(void) { return E; }`, with the core of each (ISO/IEC 9899:2024,
 -- 6.5.6, 6.5.7 and 6.9.2), and the token with which no such unit can go on.
-use Rattle.std.specs.Prelude.{◌≡◌, ◌⊎◌, ℕ, ◌+◌, ◌-◌, ◌*◌, ◌<◌, ◌≤◌, pos, true, List, [], ◌∷◌, ◌++◌, map, take, length, codes}
+use Rattle.std.specs.Prelude.{◌≡◌, ℕ, ◌+◌, ◌<◌, ◌≤◌, pos, true, List, [], ◌∷◌, ◌++◌, map, take, length, codes}
 use Rattle.std.specs.Fmt.{decimal}
 use Rattle.cake_base.specs.declared.places.Place.{Place}
-use Rattle.c_model.specs.declared.numbers.BinOp.{BinOp}
 use Rattle.c_model.specs.declared.numbers.BinOp.TheVariants.{Mul, Add, Sub}
 use Rattle.c_model.specs.FirstTokens.{Token}
-use Rattle.c_model.specs.Core.{Expr, Constant, Binary, Return, Function, Core}
+use Rattle.c_model.specs.Core.{Expr, Constant, Binary, Return, Core}
 
 -- a constant is spelled in decimal, and is one of the values of int
 abbrev pub IsConstant : List ℕ → ℕ → Type 0

@@ -1,28 +1,26 @@
 -- The runs of a unit (ISO/IEC 9899:2024, 5.1.2.3, 6.5 and 6.8.7.5), operands from left to right.
-use Rattle.std.specs.Prelude.{ℕ, ℤ, List, [], ◌∷◌, Option, Some, None, Result, Ok, Err}
-use Rattle.cake_base.specs.declared.places.Place.{Place}
+use Rattle.std.specs.Prelude.{ℕ, ℤ, List, [], ◌∷◌, Option, Some, None}
 use Rattle.c_model.specs.declared.numbers.Basic.TheVariants.{Int}
 use Rattle.c_model.specs.declared.outcomes.Cause.TheVariants.{BadCall}
-use Rattle.c_model.specs.Memory.{Value}
+use Rattle.c_model.specs.Memory.{Value, Single, Scalar, Number}
 use Rattle.c_model.specs.Run.{Run, State, Step, Goes, Ends, Undefined, Flow, Falls, Gives, follow, given, turn, start, answer_of, run_of}
 use Rattle.c_model.specs.Applied.{applied}
-use Rattle.c_model.specs.Memory.{Number}
 use Rattle.c_model.specs.Core.{Expr, Constant, Binary, Stat, Return, Function, Core, function_of}
 
 -- the value of an expression
-abbrev pub value : Expr → State → Step Value
+abbrev pub value : Expr → State → Step Scalar
 value (Constant number place) s = Goes (Number number) s
 value (Binary op left right place) s =
-    follow (value left s) (λ a s1. follow (value right s1) (λ b s2. given (Some place) (applied op Int a b) s2))
+    follow (value left s) (λ a s1. follow (value right s1) (λ b s2. given (Some place) (applied op Int 1 a b) s2))
 
 -- a statement
 abbrev pub perform : Stat → State → Step Flow
-perform (Return e place) s = follow (value e s) (λ v s1. Goes (Gives (Some v)) s1)
+perform (Return e place) s = follow (value e s) (λ v s1. Goes (Gives (Single v)) s1)
 
 -- what stands behind a statement, unless control left there
 abbrev pub behind : Flow → State → (State → Step Flow) → Step Flow
 behind Falls s next = next s
-behind (Gives v) s next = Goes (Gives v) s
+behind flow s next = Goes flow s
 
 -- statements in a row
 abbrev pub perform_all : List Stat → State → Step Flow
@@ -31,7 +29,7 @@ perform_all (stat ∷ stats) s = follow (perform stat s) (λ flow s1. behind flo
 
 -- a call of a defined function takes one turn; there is none of another function, or with arguments
 -- that it doesn't take
-abbrev pub call : Option Function → List Value → State → Step (Option Value)
+abbrev pub call : Option Function → List Value → State → Step Value
 call None arguments s = Ends (Undefined BadCall None) s
 call (Some f) (v ∷ vs) s = Ends (Undefined BadCall None) s
 call (Some f) [] s = turn s (λ s1. follow (perform_all f.body s1) (λ flow s2. Goes (answer_of flow) s2))

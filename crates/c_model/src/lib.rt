@@ -5,7 +5,9 @@
 #![tactic(auto)]
 
 pub mod laws;
+pub mod marks;
 pub mod numbers;
+pub mod operators;
 pub mod outcomes;
 pub mod tokens;
 pub mod types;
