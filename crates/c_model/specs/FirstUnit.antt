@@ -1,40 +1,69 @@
 -- The grammar of the units `int main(void) { return E; }`, with the core of each (ISO/IEC 9899:2024,
 -- 6.5.6, 6.5.7 and 6.9.2), and the token with which no such unit can go on.
-use Rattle.std.specs.Prelude.{◌≡◌, ℕ, ◌+◌, ◌<◌, ◌≤◌, pos, true, List, [], ◌∷◌, ◌++◌, map, take, length, codes}
+use Rattle.std.specs.Prelude.{◌≡◌, ℕ, ◌+◌, ◌<◌, ◌≤◌, pos, true, false, List, [], ◌∷◌, ◌++◌, map, take, length, codes}
 use Rattle.std.specs.Fmt.{decimal}
 use Rattle.cake_base.specs.declared.places.Place.{Place}
 use Rattle.c_model.specs.declared.numbers.BinOp.TheVariants.{Mul, Add, Sub}
+use Rattle.c_model.specs.declared.marks.Mark.{Mark}
+use Rattle.c_model.specs.declared.marks.Span.{Span}
+use Rattle.c_model.specs.CoreTypes.{int_type, plain}
+use Rattle.c_model.specs.Types.{CType, Function as FunctionForm, no_types}
 use Rattle.c_model.specs.FirstTokens.{Token}
-use Rattle.c_model.specs.Core.{Expr, Constant, Binary, Return, Core}
+use Rattle.c_model.specs.Core.{Expr, Constant, Binary, Return, Block, an_expr, a_stat, stats, Named, Core}
 
 -- a constant is spelled in decimal, and is one of the values of int
 abbrev pub IsConstant : List ℕ → ℕ → Type 0
 IsConstant text number = (text ≡ decimal number) × (number ≤ 2147483647)
 
+-- the mark of an expression; these units have no rule that asks for its first tokens
+abbrev pub mark_at : Place → Mark
+mark_at place = record { at = place; first = place; outer = place }
+
+abbrev pub span_at : Place → Span
+span_at place = record { first = place; last = place }
+
+-- `int (void)`
+abbrev pub main_type : CType
+main_type = plain (FunctionForm int_type no_types false)
+
 mutual
   -- sum = product | sum ("+" | "-") product
   pub data IsSum : List Token → Expr → Type 0 where
     one_product : (ts : List Token) (e : Expr) → IsProduct ts e → IsSum ts e
-    added : (ts : List Token) (left right : List Token) (sign : Token) (a b : Expr) → sign.text ≡ codes "+" → IsSum left a → IsProduct right b → ts ≡ left ++ sign ∷ right → IsSum ts (Binary Add a b sign.place)
-    subtracted : (ts : List Token) (left right : List Token) (sign : Token) (a b : Expr) → sign.text ≡ codes "-" → IsSum left a → IsProduct right b → ts ≡ left ++ sign ∷ right → IsSum ts (Binary Sub a b sign.place)
+    added : (ts : List Token) (left right : List Token) (sign : Token) (a b : Expr) → sign.text ≡ codes "+" → IsSum left a → IsProduct right b → ts ≡ left ++ sign ∷ right → IsSum ts (Binary Add a b (mark_at sign.place))
+    subtracted : (ts : List Token) (left right : List Token) (sign : Token) (a b : Expr) → sign.text ≡ codes "-" → IsSum left a → IsProduct right b → ts ≡ left ++ sign ∷ right → IsSum ts (Binary Sub a b (mark_at sign.place))
 
   -- product = primary | product "*" primary
   pub data IsProduct : List Token → Expr → Type 0 where
     one_primary : (ts : List Token) (e : Expr) → IsPrimary ts e → IsProduct ts e
-    multiplied : (ts : List Token) (left right : List Token) (sign : Token) (a b : Expr) → sign.text ≡ codes "*" → IsProduct left a → IsPrimary right b → ts ≡ left ++ sign ∷ right → IsProduct ts (Binary Mul a b sign.place)
+    multiplied : (ts : List Token) (left right : List Token) (sign : Token) (a b : Expr) → sign.text ≡ codes "*" → IsProduct left a → IsPrimary right b → ts ≡ left ++ sign ∷ right → IsProduct ts (Binary Mul a b (mark_at sign.place))
 
   -- primary = constant | "(" sum ")"
   pub data IsPrimary : List Token → Expr → Type 0 where
-    constant : (ts : List Token) (token : Token) (number : ℕ) → IsConstant token.text number → ts ≡ token ∷ [] → IsPrimary ts (Constant (pos number) token.place)
+    constant : (ts : List Token) (token : Token) (number : ℕ) → IsConstant token.text number → ts ≡ token ∷ [] → IsPrimary ts (Constant (pos number) int_type (mark_at token.place))
     parenthesised : (ts : List Token) (open_ close : Token) (inner : List Token) (e : Expr) → open_.text ≡ codes "(" → close.text ≡ codes ")" → IsSum inner e → ts ≡ open_ ∷ (inner ++ close ∷ []) → IsPrimary ts e
 
 -- the words of a unit before its `return`
 abbrev pub head_words : List (List ℕ)
 head_words = codes "int" ∷ codes "main" ∷ codes "(" ∷ codes "void" ∷ codes ")" ∷ codes "{" ∷ []
 
--- the core of a unit that returns this value
+-- the core of a unit that returns this value; every place of it is that of `return`
 abbrev pub returning : Expr → Place → Core
-returning value place = record { functions = record { name = codes "main"; is_external = true; body = Return value place ∷ [] } ∷ [] }
+returning value place = record {
+  objects = [];
+  functions = record {
+    id = 0;
+    name = Named (codes "main");
+    type = main_type;
+    is_external = true;
+    parameters = [];
+    body = a_stat (Block [] (stats (Return (an_expr value) place ∷ [])) (span_at place));
+    place = place;
+    joint_place = place;
+  } ∷ [];
+  structs = [];
+  named_types = [];
+}
 
 -- unit = "int" "main" "(" "void" ")" "{" "return" sum ";" "}"
 pub record IsUnit (ts : List Token) (core : Core) : Type 0 where

@@ -17,6 +17,14 @@ pub mod Accesses
 pub mod Outside
 pub mod Allocation
 pub mod Core
+pub mod CoreTypes
+pub mod SourceFrame
+pub mod SourceMarks
+pub mod SourceOperations
+pub mod SourceValues
+pub mod SourceCalls
+pub mod SourceStart
+pub mod SourceStatements
 pub mod SourceRun
 pub mod Signs89
 pub mod Program89

@@ -52,15 +52,15 @@ pub record State : Type 0 where
   pub events : List Event
   pub moves : List Move
 
--- the start of a run with this memory
+-- the start of a run with this memory; calls, heap blocks and handles are numbered from 1
 abbrev pub start_with : Memory → (turns : ℕ) → (world : List ℤ) → State
 start_with memory turns world = record {
   turns = turns;
   world = world;
   memory = memory;
-  calls = 0;
-  heaps = 0;
-  handles = 0;
+  calls = 1;
+  heaps = 1;
+  handles = 1;
   events = [];
   moves = [];
 }
@@ -107,6 +107,9 @@ turn_of (suc turns) state next = next (record state { turns = turns })
 abbrev pub turn : {A : Type 0} → State → (State → Step A) → Step A
 turn state next = turn_of state.turns state next
 
+abbrev pub take_turn : Act (Unit {0})
+take_turn = λ s. turn s (Goes tt)
+
 -- one of two parts
 abbrev pub choose : {A : Type 0} → Bool → Act A → Act A → Act A
 choose true yes_part no_part = yes_part
@@ -130,6 +133,29 @@ pub data Flow : Type 0 where
   Breaks : Flow
   Continues : Flow
   Gives : (value : Value) → Flow
+
+-- what stands behind a statement, unless control left there
+abbrev pub then_do : Flow → Act Flow → Act Flow
+then_do Falls rest = rest
+then_do flow rest = just flow
+
+-- what follows a round of a loop
+abbrev pub then_again : Flow → Act Flow → Act Flow
+then_again Falls rest = rest
+then_again Continues rest = rest
+then_again Breaks rest = just Falls
+then_again (Gives value) rest = just (Gives value)
+
+-- a loop, with its first round and the others, each of which takes a turn, and of which there are at most
+-- so many
+abbrev pub loop : (bound : ℕ) → (first others : Act Flow) → Act Flow
+loop zero first others = ends Out
+loop (suc bound) first others = take_turn ▷ (λ u. first ▷ (λ flow. then_again flow (loop bound others others)))
+
+-- how control leaves a switch
+abbrev pub after_switch : Flow → Flow
+after_switch Breaks = Falls
+after_switch flow = flow
 
 -- what a call answers: nothing, where control fell off the end of the function
 abbrev pub answer_of : Flow → Value
