@@ -26,6 +26,9 @@ pub mod SourceCalls
 pub mod SourceStart
 pub mod SourceStatements
 pub mod SourceRun
+pub mod ExampleParts
+pub mod Examples
+pub mod ExampleList
 pub mod Signs89
 pub mod Program89
 pub mod Spelling89

@@ -4,6 +4,7 @@
 //! shares with them, and the laws of the definitions.
 #![tactic(auto)]
 
+pub mod examples;
 pub mod laws;
 pub mod marks;
 pub mod numbers;

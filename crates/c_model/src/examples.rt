@@ -1,0 +1,43 @@
+//! Runs of small units, which the checker computes: each function does nothing, and its contract is
+//! what the run of a unit is.
+ghost use Rattle.std.specs.Prelude.{◌≡◌, pos, [], ◌∷◌, codes};
+ghost use Rattle.c_model.specs.SourceRun.{run23};
+ghost use Rattle.c_model.specs.Examples.{loop_with_defer, written_by_loop, deferred_assignment, hidden_name, load_before_call, function_literal, no_value, without_value, returned};
+ghost use Rattle.c_model.specs.ExampleList.{list_of_nodes, with_memory, without_memory};
+
+/// A deferred call runs at the end of each round, also where `continue` ends it.
+pub fn defers_run_in_each_round()
+    ensures { run23 100 loop_with_defer (codes "main") [] [] ≡ returned written_by_loop 0 }
+{}
+
+/// A returned value is there before what is deferred runs.
+pub fn defers_run_behind_returned_value()
+    ensures value { run23 100 deferred_assignment (codes "f") [] [] ≡ returned [] 1 }
+    ensures later { run23 100 deferred_assignment (codes "main") [] [] ≡ returned [] 12 }
+{}
+
+/// A name in a scope hides one outside of it.
+pub fn inner_name_hides_outer()
+    ensures { run23 100 hidden_name (codes "f") [] [] ≡ returned [] 1 }
+{}
+
+/// The left operand is evaluated before the right one.
+pub fn operands_go_from_left_to_right()
+    ensures { run23 100 load_before_call (codes "main") [] [] ≡ returned [] 3 }
+{}
+
+/// A function literal is called through a pointer.
+pub fn function_literal_is_called()
+    ensures { run23 100 function_literal (codes "main") [] [] ≡ returned [] 42 }
+{}
+
+/// An object without a value has none to read.
+pub fn uninitialised_object_is_undefined()
+    ensures { run23 100 no_value (codes "main") [] [] ≡ without_value }
+{}
+
+/// A list is built on the heap, printed and freed, or not built where there is no memory.
+pub fn list_is_printed_and_freed()
+    ensures built { run23 100 list_of_nodes (codes "main") [] (pos 1 ∷ pos 1 ∷ pos 1 ∷ []) ≡ with_memory }
+    ensures refused { run23 100 list_of_nodes (codes "main") [] [] ≡ without_memory }
+{}
