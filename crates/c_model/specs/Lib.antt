@@ -2,4 +2,6 @@ pub mod Operations
 pub mod Conversions
 pub mod Types
 pub mod TypesCode
+pub mod Layout
+pub mod Compatible
 pub mod PpTokens
