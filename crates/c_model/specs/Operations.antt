@@ -52,9 +52,17 @@ highest t = if is_signed t then pos (2 ^ (width t - 1) - 1) else pos (2 ^ width 
 abbrev pub fits : Basic → ℤ → Bool
 fits t value = int_le (lowest t) value && int_le value (highest t)
 
+-- the low bits of a number, as many as the width of the type, in two's complement
+abbrev pub bits_of : Basic → ℤ → ℕ
+bits_of t value = unsigned_abs (int_rem_euclid value (pos (2 ^ width t)))
+
+-- the value of the type that has these bits
+abbrev pub value_of : Basic → ℕ → ℤ
+value_of t bits = if int_le (pos bits) (highest t) then pos bits else pos bits -ℤ pos (2 ^ width t)
+
 -- the value of the type that differs from this one by a multiple of 2 ^ width
 abbrev pub wrapped : Basic → ℤ → ℤ
-wrapped t value = lowest t +ℤ int_rem_euclid (value -ℤ lowest t) (pos (2 ^ width t))
+wrapped t value = value_of t (bits_of t value)
 
 -- a truth value as a number
 abbrev pub truth : Bool → ℤ
@@ -74,13 +82,9 @@ within t value = if fits t value then Ok value else Err Overflow
 abbrev pub result_in : Basic → ℤ → Result ℤ Cause
 result_in t value = if is_signed t then within t value else Ok (wrapped t value)
 
--- the bits of a value in two's complement, as an unsigned number
-abbrev pub bits_of : Basic → ℤ → ℕ
-bits_of t value = unsigned_abs (int_rem_euclid value (pos (2 ^ width t)))
-
 -- an operation on the bits of two values
 abbrev pub on_bits : (ℕ → ℕ → ℕ) → Basic → ℤ → ℤ → ℤ
-on_bits f t left right = wrapped t (pos (f (bits_of t left) (bits_of t right)))
+on_bits f t left right = value_of t (f (bits_of t left) (bits_of t right))
 
 -- a quotient, or what it is undefined by: a divisor 0, or a quotient out of range
 abbrev pub divided : Basic → ℤ → ℤ → Result ℤ Cause
