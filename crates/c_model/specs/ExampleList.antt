@@ -1,14 +1,14 @@
 -- A unit that builds a list on the heap, prints it and frees it, as a core, with what its run has to be.
-use Rattle.std.specs.Prelude.{ℕ, ℤ, pos, Bool, true, false, List, [], ◌∷◌, codes, Option, Some, None}
+use Rattle.std.specs.Prelude.{ℕ, pos, true, false, List, [], ◌∷◌, codes, Some}
 use Rattle.c_model.specs.declared.numbers.Basic.TheVariants.{Char, UnsignedLong}
 use Rattle.c_model.specs.declared.numbers.BinOp.TheVariants.{LessEqual}
 use Rattle.c_model.specs.declared.operators.UnaryOp.TheVariants.{Not}
 use Rattle.c_model.specs.declared.marks.Origin.TheVariants.{Implied}
 use Rattle.c_model.specs.declared.types.Quals.{Quals}
 use Rattle.c_model.specs.declared.types.StructId.{StructId}
-use Rattle.c_model.specs.Types.{CType, typed, Void, Integer, Pointer, Array, Struct, Function as FunctionForm, types, Structure, Member}
+use Rattle.c_model.specs.Types.{CType, typed, Void, Integer, Pointer, Array, Struct, Function as FunctionForm, types, Structure}
 use Rattle.c_model.specs.CoreTypes.{int_type, plain, no_quals}
-use Rattle.c_model.specs.Run.{Run, Event, Argument, Integer as IntegerArgument, StringAt, Took, Freed, Returned}
+use Rattle.c_model.specs.Run.{Run, Event, Integer as IntegerArgument, StringAt, Took, Freed, Returned}
 use Rattle.c_model.specs.Core.{Core, Expr, Constant, Convert, Address, Unary, Lvalue, Arrow, Stat, If, While, For, no_expr, an_expr, no_stat, a_stat, Parameter, Text}
 use Rattle.c_model.specs.ExampleParts.{nowhere, no_mark, no_span, number, int_variable, variable, load, binary, assigned, call, increment, evaluate, start, block, return, function_type, automatic, stored_as, function, int_value}
 
@@ -51,7 +51,7 @@ node_struct = record {
   outer = true;
   place = nowhere;
   members = Some
-  (record { name = codes "value"; ty = int_type; place = nowhere } ∷ record { name = codes "next"; ty = node_owner; place = nowhere } ∷ []);
+      (record { name = codes "value"; ty = int_type; place = nowhere } ∷ record { name = codes "next"; ty = node_owner; place = nowhere } ∷ []);
 }
 
 abbrev pub format : List ℕ
@@ -105,13 +105,13 @@ abbrev pub drop_body : Stat
 drop_body =
     block []
     (While (load dropped) (
-      block (11 ∷ [])
-      (start 11 node_owner (load (next_of dropped))
-          ∷ evaluate (call 3 free_type (implied void_owner (load dropped) ∷ []))
-          ∷ evaluate (assigned dropped (load next))
-          ∷ [])
+    block (11 ∷ [])
+    (start 11 node_owner (load (next_of dropped))
+    ∷ evaluate (call 3 free_type (implied void_owner (load dropped) ∷ []))
+    ∷ evaluate (assigned dropped (load next))
+    ∷ [])
     ) no_span
-        ∷ [])
+    ∷ [])
 
 abbrev pub drop_head : Stat
 drop_head = evaluate (call 4 drop_type (load head ∷ []))
@@ -125,19 +125,19 @@ abbrev pub make_body : Stat
 make_body =
     block (14 ∷ [])
     (start 14 node_owner new_node
-        ∷ If (Unary Not (load made) no_mark) (block [] (drop_head ∷ return (number 1) ∷ [])) no_stat no_span
-        ∷ evaluate (assigned (value_of made) (load count))
-        ∷ evaluate (assigned (next_of made) (load head))
-        ∷ evaluate (assigned head (load made))
-        ∷ [])
+    ∷ If (Unary Not (load made) no_mark) (block [] (drop_head ∷ return (number 1) ∷ [])) no_stat no_span
+    ∷ evaluate (assigned (value_of made) (load count))
+    ∷ evaluate (assigned (next_of made) (load head))
+    ∷ evaluate (assigned head (load made))
+    ∷ [])
 
 -- for (int i = 1; i <= 3; i++) ..
 abbrev pub make_nodes : Stat
 make_nodes =
     block (13 ∷ [])
     (start 13 int_type (number 1)
-        ∷ For no_expr (an_expr (binary LessEqual (load count) (number 3))) (an_expr (increment count)) make_body no_span
-        ∷ [])
+    ∷ For no_expr (an_expr (binary LessEqual (load count) (number 3))) (an_expr (increment count)) make_body no_span
+    ∷ [])
 
 -- printf("%d\n", p->value)
 abbrev pub print : Stat
@@ -151,8 +151,8 @@ abbrev pub print_nodes : Stat
 print_nodes =
     block (15 ∷ [])
     (start 15 node_view (implied node_view (load head))
-        ∷ For no_expr (an_expr (load view)) (an_expr (assigned view (implied node_view (load (next_of view))))) print no_span
-        ∷ [])
+    ∷ For no_expr (an_expr (load view)) (an_expr (assigned view (implied node_view (load (next_of view))))) print no_span
+    ∷ [])
 
 abbrev pub main_body : Stat
 main_body =

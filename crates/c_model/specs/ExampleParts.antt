@@ -1,18 +1,16 @@
 -- Short words for cores that are written by hand.
-use Rattle.std.specs.Prelude.{ℕ, ℤ, pos, Bool, true, false, List, [], ◌∷◌, Option, Some, None}
+use Rattle.std.specs.Prelude.{ℕ, pos, true, false, List, [], ◌∷◌, Some, None}
 use Rattle.cake_base.specs.declared.places.Place.{Place}
-use Rattle.c_model.specs.declared.numbers.Basic.TheVariants.{Int, Char}
 use Rattle.c_model.specs.declared.numbers.BinOp.{BinOp}
 use Rattle.c_model.specs.declared.marks.Mark.{Mark}
 use Rattle.c_model.specs.declared.marks.Span.{Span}
-use Rattle.c_model.specs.declared.marks.Origin.TheVariants.{Written, Implied}
 use Rattle.c_model.specs.declared.operators.StepOp.TheVariants.{Increment}
 use Rattle.c_model.specs.declared.operators.StepSide.TheVariants.{Postfix}
-use Rattle.c_model.specs.Types.{CType, typed, Integer, Pointer, Function as FunctionForm, Types, no_types, more_types, types}
-use Rattle.c_model.specs.CoreTypes.{int_type, plain, no_quals}
+use Rattle.c_model.specs.Types.{CType, Function as FunctionForm, types}
+use Rattle.c_model.specs.CoreTypes.{int_type, plain}
 use Rattle.c_model.specs.Memory.{Value, Single, Number}
 use Rattle.c_model.specs.Run.{Event, Integer as IntegerArgument}
-use Rattle.c_model.specs.Core.{Expr, Constant, Load, Address, FunctionRef, Binary, Convert, Call, Assign, Plain, Step, Lvalue, Object, Exprs, exprs, Initials, no_initials, more_initials, Stat, Evaluate, Start, Block, Return, MaybeExpr, an_expr, MaybeStat, no_stat, a_stat, stats, Storage, Automatic, Static, DeclaredObject, Function, FunctionName, Named, Core}
+use Rattle.c_model.specs.Core.{Expr, Constant, Load, FunctionRef, Binary, Call, Assign, Plain, Step, Lvalue, Object, exprs, no_initials, more_initials, Stat, Evaluate, Start, Block, Return, an_expr, MaybeStat, stats, Storage, Automatic, Static, DeclaredObject, Function, Named, Core}
 
 -- a place on the first line
 abbrev pub at_column : (column order : ℕ) → Place

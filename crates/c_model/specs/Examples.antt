@@ -1,14 +1,12 @@
 -- Units of a few lines as cores, with what their runs have to be: defers, scopes, the order of operands,
 -- function literals and a value that isn't there.
-use Rattle.std.specs.Prelude.{ℕ, ℤ, pos, Bool, true, false, List, [], ◌∷◌, codes, Option, Some, None}
+use Rattle.std.specs.Prelude.{ℕ, false, List, [], ◌∷◌, codes, Some}
 use Rattle.c_model.specs.declared.numbers.BinOp.TheVariants.{Mul, Add, Less, Equal}
-use Rattle.c_model.specs.declared.marks.Origin.TheVariants.{Implied}
 use Rattle.c_model.specs.declared.outcomes.Cause.TheVariants.{Uninitialised}
 use Rattle.c_model.specs.Types.{CType}
 use Rattle.c_model.specs.CoreTypes.{int_type, pointer_to}
-use Rattle.c_model.specs.Memory.{Value}
-use Rattle.c_model.specs.Run.{Run, Event, Ending, Returned, Undefined}
-use Rattle.c_model.specs.Core.{Core, Expr, Call, FunctionRef, Load, Object, exprs, Stat, Defer, If, Continue, For, no_expr, an_expr, no_stat, a_stat, Parameter, Lambda, Function}
+use Rattle.c_model.specs.Run.{Run, Event, Returned, Undefined}
+use Rattle.c_model.specs.Core.{Core, Expr, Call, FunctionRef, Load, Object, exprs, Stat, Defer, If, Continue, For, no_expr, an_expr, no_stat, a_stat, Parameter, Lambda}
 use Rattle.c_model.specs.ExampleParts.{at_column, nowhere, mark_of, no_mark, no_span, number, int_variable, variable, load, binary, assigned, call, increment, evaluate, start, block, return, function_type, automatic, stored_as, global_int, function, unit, int_value, called_with}
 
 abbrev pub int_void : CType
@@ -33,23 +31,23 @@ loop_with_defer =
     unit
     (automatic 3 int_type ∷ [])
     (function 1 (codes "putchar") int_int [] no_stat
-        ∷ function 2 (codes "main") int_void [] (
-          a_stat
-          (block []
-          (block (3 ∷ [])
-                  (start 3 int_type (number 0)
-                  ∷ For no_expr (an_expr (binary Less (load (int_variable 3)) (number 3))) (an_expr (increment (int_variable 3))) (
-                    block []
-                    (deferred (putchar (number 100))
-                        ∷ If (binary Equal (load (int_variable 3)) (number 1)) (Continue nowhere) no_stat no_span
-                        ∷ putchar (binary Add (number 97) (load (int_variable 3)))
-                        ∷ [])
-                  ) no_span
-                  ∷ [])
-              ∷ return (number 0)
-              ∷ []))
-        )
-        ∷ [])
+    ∷ function 2 (codes "main") int_void [] (
+    a_stat
+    (block []
+    (block (3 ∷ [])
+    (start 3 int_type (number 0)
+    ∷ For no_expr (an_expr (binary Less (load (int_variable 3)) (number 3))) (an_expr (increment (int_variable 3))) (
+    block []
+    (deferred (putchar (number 100))
+    ∷ If (binary Equal (load (int_variable 3)) (number 1)) (Continue nowhere) no_stat no_span
+    ∷ putchar (binary Add (number 97) (load (int_variable 3)))
+    ∷ [])
+    ) no_span
+    ∷ [])
+    ∷ return (number 0)
+    ∷ []))
+    )
+    ∷ [])
 
 -- the bytes that it writes: addcd
 abbrev pub written_by_loop : List Event
@@ -62,12 +60,12 @@ deferred_assignment =
     unit
     (global_int 1 1 ∷ [])
     (function 2 (codes "f") int_void [] (
-      a_stat (block [] (deferred (evaluate (assigned (int_variable 1) (number 2))) ∷ return (load (int_variable 1)) ∷ []))
+    a_stat (block [] (deferred (evaluate (assigned (int_variable 1) (number 2))) ∷ return (load (int_variable 1)) ∷ []))
     )
-        ∷ function 3 (codes "main") int_void [] (
-          a_stat (block [] (return (binary Add (binary Mul (call 2 int_void []) (number 10)) (load (int_variable 1))) ∷ []))
-        )
-        ∷ [])
+    ∷ function 3 (codes "main") int_void [] (
+    a_stat (block [] (return (binary Add (binary Mul (call 2 int_void []) (number 10)) (load (int_variable 1))) ∷ []))
+    )
+    ∷ [])
 
 -- int f(void) { int x = 1; { int y = x; int x = 2; return y; } }
 abbrev pub hidden_name : Core
@@ -75,13 +73,13 @@ hidden_name =
     unit
     (automatic 1 int_type ∷ automatic 2 int_type ∷ automatic 3 int_type ∷ [])
     (function 4 (codes "f") int_void [] (
-      a_stat
-      (block (1 ∷ [])
-      (start 1 int_type (number 1)
-          ∷ block (2 ∷ 3 ∷ []) (start 2 int_type (load (int_variable 1)) ∷ start 3 int_type (number 2) ∷ return (load (int_variable 2)) ∷ [])
-          ∷ []))
+    a_stat
+    (block (1 ∷ [])
+    (start 1 int_type (number 1)
+    ∷ block (2 ∷ 3 ∷ []) (start 2 int_type (load (int_variable 1)) ∷ start 3 int_type (number 2) ∷ return (load (int_variable 2)) ∷ [])
+    ∷ []))
     )
-        ∷ [])
+    ∷ [])
 
 -- int g = 1; int f(void) { g = 5; return 2; } int main(void) { return g + f(); }
 abbrev pub load_before_call : Core
@@ -89,8 +87,8 @@ load_before_call =
     unit
     (global_int 1 1 ∷ [])
     (function 2 (codes "f") int_void [] (a_stat (block [] (evaluate (assigned (int_variable 1) (number 5)) ∷ return (number 2) ∷ [])))
-        ∷ function 3 (codes "main") int_void [] (a_stat (block [] (return (binary Add (load (int_variable 1)) (call 2 int_void [])) ∷ [])))
-        ∷ [])
+    ∷ function 3 (codes "main") int_void [] (a_stat (block [] (return (binary Add (load (int_variable 1)) (call 2 int_void [])) ∷ [])))
+    ∷ [])
 
 abbrev pub pointer_type : CType
 pointer_type = pointer_to int_int
@@ -101,17 +99,17 @@ function_literal =
     unit
     (automatic 1 pointer_type ∷ stored_as Parameter (automatic 2 int_type) ∷ [])
     (function 3 (codes "main") int_void [] (
-      a_stat
-      (block (1 ∷ [])
-      (start 1 pointer_type (FunctionRef 4 int_int false no_mark)
-          ∷ return (Call (load (variable 1 pointer_type)) (exprs (number 41 ∷ [])) no_mark)
-          ∷ []))
+    a_stat
+    (block (1 ∷ [])
+    (start 1 pointer_type (FunctionRef 4 int_int false no_mark)
+    ∷ return (Call (load (variable 1 pointer_type)) (exprs (number 41 ∷ [])) no_mark)
+    ∷ []))
     )
-        ∷ record (function 4 [] int_int (2 ∷ []) (a_stat (block [] (return (binary Add (load (int_variable 2)) (number 1)) ∷ [])))) {
-          name = Lambda nowhere;
-          is_external = false;
-        }
-        ∷ [])
+    ∷ record (function 4 [] int_int (2 ∷ []) (a_stat (block [] (return (binary Add (load (int_variable 2)) (number 1)) ∷ [])))) {
+      name = Lambda nowhere;
+      is_external = false;
+    }
+    ∷ [])
 
 -- int main(void) { int x; return x; }
 abbrev pub no_value : Core
@@ -119,10 +117,10 @@ no_value =
     unit
     (automatic 1 int_type ∷ [])
     (function 2 (codes "main") int_void [] (
-      a_stat
-      (block (1 ∷ []) (return (Load (Object 1 int_type (mark_of (at_column 32 10))) (mark_of (at_column 32 10))) ∷ []))
+    a_stat
+    (block (1 ∷ []) (return (Load (Object 1 int_type (mark_of (at_column 32 10))) (mark_of (at_column 32 10))) ∷ []))
     )
-        ∷ [])
+    ∷ [])
 
 abbrev pub without_value : Run
 without_value = record { events = []; moves = []; ending = Undefined Uninitialised (Some (at_column 32 10)) }

@@ -1,7 +1,8 @@
 //! Runs of small units, which the checker computes: each function does nothing, and its contract is
 //! what the run of a unit is.
-ghost use Rattle.std.specs.Prelude.{◌≡◌, pos, [], ◌∷◌, codes};
+ghost use Rattle.std.specs.Prelude.{◌≡◌, true, pos, [], ◌∷◌, codes};
 ghost use Rattle.c_model.specs.SourceRun.{run23};
+ghost use Rattle.c_model.specs.TypedCore.{is_typed_core};
 ghost use Rattle.c_model.specs.Examples.{loop_with_defer, written_by_loop, deferred_assignment, hidden_name, load_before_call, function_literal, no_value, without_value, returned};
 ghost use Rattle.c_model.specs.ExampleList.{list_of_nodes, with_memory, without_memory};
 
@@ -40,4 +41,15 @@ pub fn uninitialised_object_is_undefined()
 pub fn list_is_printed_and_freed()
     ensures built { run23 100 list_of_nodes (codes "main") [] (pos 1 ∷ pos 1 ∷ pos 1 ∷ []) ≡ with_memory }
     ensures refused { run23 100 list_of_nodes (codes "main") [] [] ≡ without_memory }
+{}
+
+/// The units of this file are typed.
+pub fn units_are_typed()
+    ensures defers { is_typed_core loop_with_defer ≡ true }
+    ensures assignment { is_typed_core deferred_assignment ≡ true }
+    ensures hiding { is_typed_core hidden_name ≡ true }
+    ensures order { is_typed_core load_before_call ≡ true }
+    ensures literal { is_typed_core function_literal ≡ true }
+    ensures uninitialised { is_typed_core no_value ≡ true }
+    ensures list { is_typed_core list_of_nodes ≡ true }
 {}

@@ -1,0 +1,146 @@
+-- When a core is typed (ISO/IEC 9899:2024, 6.2.2, 6.7 to 6.9): its expressions and statements are, by
+-- themselves and where they stand, and its external names are names of which no two are the same.
+use Rattle.std.specs.Prelude.{ℕ, Bool, true, false, ◌&&◌, not, List, [], ◌∷◌, ◌++◌, codes, take, Option, Some, None, IsTrue}
+use Rattle.std.specs.List.{list_any, list_all}
+use Rattle.std.specs.Str.{bytes_eq}
+use Rattle.c_model.specs.Types.{CType, Form, Function, Types, no_types, more_types, form_of_type}
+use Rattle.c_model.specs.Layout.{is_complete}
+use Rattle.c_model.specs.CoreTypes.{type_of, is_void, result_of_form}
+use Rattle.c_model.specs.SameTypes.{same_value_type}
+use Rattle.c_model.specs.SourceStart.{object_type_of}
+use Rattle.c_model.specs.SourceWords.{is_name}
+use Rattle.c_model.specs.TypedParts.{is_function, is_array}
+use Rattle.c_model.specs.TypedExpr.{are_typed_values}
+use Rattle.c_model.specs.TypedStat.{is_typed_stat}
+use Rattle.c_model.specs.TypedScope.{Scope, with_ids, object_is, is_bound, are_bound_values, is_known}
+use Rattle.c_model.specs.StaticValues.{are_constant}
+use Rattle.c_model.specs.Core as unit
+
+-- where a statement stands: what the function gives, and whether a loop or switch, or a loop, is round it
+pub record Around : Type 0 where
+  pub scope : Scope
+  pub result : CType
+  pub can_return : Bool
+  pub can_break : Bool
+  pub can_continue : Bool
+
+abbrev pub in_block : List ℕ → Around → Around
+in_block ids around = record around { scope = with_ids ids around.scope }
+
+abbrev pub in_loop : Around → Around
+in_loop around = record around { can_break = true; can_continue = true }
+
+abbrev pub in_switch : List ℕ → Around → Around
+in_switch ids around = record (in_block ids around) { can_break = true }
+
+-- control doesn't leave a deferred statement
+abbrev pub in_defer : Around → Around
+in_defer around = record around { can_return = false; can_break = false; can_continue = false }
+
+abbrev pub maybe_bound : Scope → unit.MaybeExpr → Bool
+maybe_bound scope unit.no_expr = true
+maybe_bound scope (unit.an_expr e) = is_bound scope e
+
+-- a value is returned exactly where there is a result, and has its type
+abbrev pub return_fits : CType → unit.MaybeExpr → Bool
+return_fits result unit.no_expr = is_void result
+return_fits result (unit.an_expr e) = not (is_void result) && same_value_type result (type_of e)
+
+abbrev mutual
+  pub stands : Around → unit.Stat → Bool
+  stands a (unit.Evaluate e span) = is_bound a.scope e
+  stands a (unit.Start id type values mark) =
+      object_is a.scope id type (unit.object_of a.scope.core.objects id) && are_bound_values a.scope values
+  stands a (unit.Block objects body span) = all_stand (in_block objects a) body
+  stands a (unit.If e first second span) = is_bound a.scope e && stands a first && maybe_stands a second
+  stands a (unit.Switch e objects body span) = is_bound a.scope e && cases_stand (in_switch objects a) body
+  stands a (unit.While e body span) = is_bound a.scope e && stands (in_loop a) body
+  stands a (unit.DoWhile body e span) = is_bound a.scope e && stands (in_loop a) body
+  stands a (unit.For first e step body span) =
+      maybe_bound a.scope first && maybe_bound a.scope e && maybe_bound a.scope step && stands (in_loop a) body
+  stands a (unit.Break place) = a.can_break
+  stands a (unit.Continue place) = a.can_continue
+  stands a (unit.Return value place) = a.can_return && maybe_bound a.scope value && return_fits a.result value
+  stands a (unit.Defer body place span) = stands (in_defer a) body
+
+  pub maybe_stands : Around → unit.MaybeStat → Bool
+  maybe_stands a unit.no_stat = true
+  maybe_stands a (unit.a_stat stat) = stands a stat
+
+  pub all_stand : Around → unit.Stats → Bool
+  all_stand a unit.no_stats = true
+  all_stand a (unit.more_stats stat stats) = stands a stat && all_stand a stats
+
+  pub cases_stand : Around → unit.Cases → Bool
+  cases_stand a unit.no_cases = true
+  cases_stand a (unit.a_case value place others) = cases_stand a others
+  cases_stand a (unit.a_default place others) = cases_stand a others
+  cases_stand a (unit.a_stat_then stat others) = stands a stat && cases_stand a others
+
+-- the parameters of a function are objects of the types of its form
+abbrev pub parameters_fit : unit.Core → Types → List ℕ → Bool
+parameters_fit core no_types [] = true
+parameters_fit core (more_types type types) (id ∷ ids) =
+    is_complete core.structs type && same_value_type (object_type_of core id) type && parameters_fit core types ids
+parameters_fit core _ _ = false
+
+abbrev pub takes_parameters : unit.Core → Form → List ℕ → Bool
+takes_parameters core (Function result parameters variadic) ids = parameters_fit core parameters ids
+takes_parameters core form ids = false
+
+abbrev pub body_fits : unit.Core → unit.Function → unit.MaybeStat → Bool
+body_fits core g unit.no_stat = true
+body_fits core g (unit.a_stat body) =
+    is_typed_stat body && takes_parameters core (form_of_type g.type) g.parameters && stands (record {
+      scope = with_ids g.parameters (record { core = core; ids = [] });
+      result = result_of_form (form_of_type g.type);
+      can_return = true;
+      can_break = false;
+      can_continue = false;
+    }) body
+
+abbrev pub function_fits : unit.Core → unit.Function → Bool
+function_fits core g = is_function (form_of_type g.type) && is_known core.structs g.type && body_fits core g g.body
+
+-- static objects have constant values, and what is defined is complete
+abbrev pub storage_fits : unit.Core → CType → unit.Storage → Bool
+storage_fits core type (unit.Static values) =
+    is_complete core.structs type && are_typed_values values && are_bound_values (record { core = core; ids = [] }) values && are_constant values
+storage_fits core type (unit.Text bytes) = is_array (form_of_type type) && is_complete core.structs type
+storage_fits core type unit.Declared = true
+storage_fits core type _ = is_complete core.structs type
+
+abbrev pub object_fits : unit.Core → unit.DeclaredObject → Bool
+object_fits core o = not (is_function (form_of_type o.type)) && is_known core.structs o.type && storage_fits core o.type o.storage
+
+abbrev pub name_of : unit.FunctionName → Option (List ℕ)
+name_of (unit.Named name) = Some name
+name_of (unit.Lambda place) = None
+
+abbrev pub named_if : Bool → Option (List ℕ) → List (List ℕ)
+named_if true (Some name) = name ∷ []
+named_if _ _ = []
+
+-- the external names of functions and of objects
+abbrev pub external_functions : List unit.Function → List (List ℕ)
+external_functions [] = []
+external_functions (g ∷ gs) = named_if g.is_external (name_of g.name) ++ external_functions gs
+
+abbrev pub external_objects : List unit.DeclaredObject → List (List ℕ)
+external_objects [] = []
+external_objects (o ∷ os) = named_if o.is_external o.name ++ external_objects os
+
+-- no two are the same, and each is a name that isn't kept for made ones
+abbrev pub are_names : List (List ℕ) → Bool
+are_names [] = true
+are_names (name ∷ names) =
+    is_name name && not (bytes_eq (take 5 name) (codes "cake_")) && not (list_any (λ other. bytes_eq other name) names) && are_names names
+
+abbrev pub is_typed_core : unit.Core → Bool
+is_typed_core core =
+    list_all (function_fits core) core.functions
+    && list_all (object_fits core) core.objects
+    && are_names (external_functions core.functions ++ external_objects core.objects)
+
+abbrev pub TypedCore : unit.Core → Type 0
+TypedCore core = IsTrue (is_typed_core core)

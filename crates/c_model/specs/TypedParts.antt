@@ -1,0 +1,134 @@
+-- What the parts of an expression of a core have to be (ISO/IEC 9899:2024, 6.3, 6.5), as far as the
+-- expression shows it by itself.
+use Rattle.std.specs.Prelude.{ℤ, Bool, true, false, ◌&&◌, ◌||◌, not, List, [], ◌∷◌, if◌then◌else◌}
+use Rattle.c_model.specs.declared.numbers.Basic.TheVariants.{Bool as bool}
+use Rattle.c_model.specs.declared.numbers.BinOp.{BinOp}
+use Rattle.c_model.specs.declared.numbers.BinOp.TheVariants.{Add, Sub, Less, Greater, LessEqual, GreaterEqual, Equal, NotEqual}
+use Rattle.c_model.specs.declared.operators.UnaryOp.{UnaryOp}
+use Rattle.c_model.specs.declared.operators.UnaryOp.TheVariants.{Not}
+use Rattle.c_model.specs.declared.marks.Origin.{Origin}
+use Rattle.c_model.specs.declared.marks.Origin.TheVariants.{Written, Implied}
+use Rattle.c_model.specs.Operations.{fits}
+use Rattle.c_model.specs.Conversions.{promoted, is_shift}
+use Rattle.c_model.specs.Types.{CType, Form, Void, Integer, Enum, Pointer, Array, Struct, Function, Types, no_types, more_types, form_of_type, quals_of_type}
+use Rattle.c_model.specs.Compatible.{compatible, same_basic}
+use Rattle.c_model.specs.CoreTypes.{unqualified, is_pointer}
+use Rattle.c_model.specs.SameTypes.{same_value_type, same_form, is_integer, is_zero, is_void_pointer}
+
+abbrev pub is_array : Form → Bool
+is_array (Array type count) = true
+is_array _ = false
+
+abbrev pub is_function : Form → Bool
+is_function (Function result parameters variadic) = true
+is_function _ = false
+
+abbrev pub is_struct : Form → Bool
+is_struct (Struct id) = true
+is_struct _ = false
+
+abbrev pub is_scalar : Form → Bool
+is_scalar form = is_integer form || is_pointer form
+
+abbrev pub is_function_pointer : Form → Bool
+is_function_pointer (Pointer type) = is_function (form_of_type type)
+is_function_pointer _ = false
+
+-- a pointer to an object or to void
+abbrev pub is_object_pointer : Form → Bool
+is_object_pointer (Pointer type) = not (is_function (form_of_type type))
+is_object_pointer _ = false
+
+abbrev pub is_promoted : Form → Bool
+is_promoted (Integer basic) = same_basic (promoted basic) basic
+is_promoted _ = false
+
+-- two pointers to compatible types, qualifiers of these aside
+abbrev pub alike_pointers : Form → Form → Bool
+alike_pointers (Pointer t) (Pointer u) = compatible (unqualified t) (unqualified u)
+alike_pointers _ _ = false
+
+-- two pointers that can be equal: to compatible types, or one to void
+abbrev pub comparable : Form → Form → Bool
+comparable f g = alike_pointers f g || is_object_pointer f && is_object_pointer g && (is_void_pointer f || is_void_pointer g)
+
+abbrev pub same_promoted : Form → Form → Bool
+same_promoted f g = is_promoted f && same_form f g
+
+-- the operands of a binary operator (6.5.6 to 6.5.13): of one promoted type, but for a shift's; or pointers
+abbrev pub takes : BinOp → Form → Form → Bool
+takes Add f g = same_promoted f g || is_object_pointer f && is_integer g || is_integer f && is_object_pointer g
+takes Sub f g = same_promoted f g || is_object_pointer f && is_integer g || is_object_pointer f && alike_pointers f g
+takes Less f g = same_promoted f g || alike_pointers f g
+takes Greater f g = same_promoted f g || alike_pointers f g
+takes LessEqual f g = same_promoted f g || alike_pointers f g
+takes GreaterEqual f g = same_promoted f g || alike_pointers f g
+takes Equal f g = same_promoted f g || comparable f g
+takes NotEqual f g = same_promoted f g || comparable f g
+takes op f g = if is_shift op then is_promoted f && is_promoted g else same_promoted f g
+
+abbrev pub takes_one : UnaryOp → Form → Bool
+takes_one Not form = is_scalar form
+takes_one op form = is_promoted form
+
+-- a conversion from a form to another that both a cast and an assignment may make or a cast alone
+-- (6.3.2, 6.3.3, 6.5.5, 6.5.17.2)
+abbrev pub converts : (is_null : Bool) → (from to : Form) → Bool
+converts is_null from Void = true
+converts is_null from (Integer bool) = is_scalar from
+converts is_null from (Integer basic) = is_integer from
+converts is_null from (Enum bool order) = is_scalar from
+converts is_null from (Enum basic order) = is_integer from
+converts is_null from (Pointer type) =
+    is_null || is_object_pointer from && is_object_pointer (Pointer type) || is_function_pointer from && is_function_pointer (Pointer type)
+converts is_null from (Struct id) = same_form from (Struct id)
+converts is_null from _ = false
+
+-- an implied one: pointers are to types that are compatible apart from qualifiers, or one of them is to void
+abbrev pub implied_fits : (is_null : Bool) → (from to : Form) → Bool
+implied_fits is_null from (Pointer type) = is_null || comparable from (Pointer type)
+implied_fits is_null from to = true
+
+abbrev pub origin_fits : Origin → (is_null : Bool) → (from to : Form) → Bool
+origin_fits Written is_null from to = true
+origin_fits Implied is_null from to = implied_fits is_null from to
+
+-- a constant of an integer type has one of its values, of a pointer type it is null
+abbrev pub constant_fits : ℤ → Form → Bool
+constant_fits value (Integer basic) = fits basic value
+constant_fits value (Enum basic order) = fits basic value
+constant_fits value (Pointer type) = is_zero value
+constant_fits value form = false
+
+-- a value can be loaded and stored: a scalar or a structure
+abbrev pub is_storable : Form → Bool
+is_storable form = is_scalar form || is_struct form
+
+-- an object that can be assigned to (6.3.3.1), as far as its type shows it
+abbrev pub is_modifiable : CType → Bool
+is_modifiable type = is_storable (form_of_type type) && not (quals_of_type type).has_const
+
+-- an argument behind the parameters is promoted
+abbrev pub is_extra : Form → Bool
+is_extra form = is_promoted form || is_pointer form || is_struct form
+
+-- the type in which an assignment or a step is done, from the types of its operands
+abbrev pub done_fits : BinOp → (done_in object value : Form) → Bool
+done_fits op done_in object value =
+    if is_pointer done_in then is_object_pointer done_in && same_form done_in object && is_integer value
+    else is_integer object && takes op done_in value
+
+abbrev pub step_fits : (done_in object : Form) → Bool
+step_fits done_in object = if is_pointer done_in then is_object_pointer done_in && same_form done_in object else is_integer object && is_promoted done_in
+
+-- the types of arguments: those of the parameters, and behind them promoted ones where there may be more
+abbrev pub argument_types_fit : Types → (is_variadic : Bool) → List CType → Bool
+argument_types_fit no_types is_variadic [] = true
+argument_types_fit no_types is_variadic (type ∷ types) = is_variadic && is_extra (form_of_type type) && argument_types_fit no_types is_variadic types
+argument_types_fit (more_types parameter parameters) is_variadic [] = false
+argument_types_fit (more_types parameter parameters) is_variadic (type ∷ types) =
+    same_value_type parameter type && argument_types_fit parameters is_variadic types
+
+abbrev pub call_fits : Form → List CType → Bool
+call_fits (Function result parameters is_variadic) types = argument_types_fit parameters is_variadic types
+call_fits form types = false
