@@ -1,7 +1,7 @@
 -- The typed core of a translation unit (ISO/IEC 9899:2024, 6.5 to 6.9): every name is bound and every
 -- conversion is written out; an array or function value is its address. Objects and functions stand by
 -- their numbers.
-use Rattle.std.specs.Prelude.{ℕ, ◌==◌, ℤ, Bool, false, List, [], ◌∷◌, Option, Some, None, if◌then◌else◌}
+use Rattle.std.specs.Prelude.{ℕ, ◌==◌, ℤ, Bool, false, ◌&&◌, List, [], ◌∷◌, Option, Some, None, if◌then◌else◌}
 use Rattle.std.specs.Str.{bytes_eq}
 use Rattle.cake_base.specs.declared.places.Place.{Place}
 use Rattle.c_model.specs.declared.numbers.BinOp.{BinOp}
@@ -160,6 +160,15 @@ is_named (Lambda place) name = false
 abbrev pub function_of : List Function → List ℕ → Option Function
 function_of [] name = None
 function_of (f ∷ fs) name = if is_named f.name name then Some f else function_of fs name
+
+abbrev pub is_object_named : Option (List ℕ) → List ℕ → Bool
+is_object_named None name = false
+is_object_named (Some other) name = bytes_eq other name
+
+-- the external object of a name
+abbrev pub external_object : List DeclaredObject → List ℕ → Option DeclaredObject
+external_object [] name = None
+external_object (o ∷ os) name = if o.is_external && is_object_named o.name name then Some o else external_object os name
 
 abbrev pub function_by_id : List Function → (id : ℕ) → Option Function
 function_by_id [] id = None

@@ -127,6 +127,8 @@ shape_of structs type = StructShape (size_in structs type)
 abbrev pub element_size : List Structure → CType → ℕ
 element_size structs pointer = size_in structs (pointee (form_of_type pointer))
 
--- of two operands, the size of what the pointer among them points to
+-- of two operands, the size of what the pointer among them points to; 1 of integers
 abbrev pub step_size : List Structure → CType → CType → ℕ
-step_size structs left right = element_size structs (if is_pointer (form_of_type left) then left else right)
+step_size structs left right =
+    if is_pointer (form_of_type left) then element_size structs left
+    else if is_pointer (form_of_type right) then element_size structs right else 1

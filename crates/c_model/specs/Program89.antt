@@ -1,90 +1,147 @@
--- C89 programs (ISO/IEC 9899:1990, 6.3 to 6.7).
-use Rattle.std.specs.Prelude.{◌≡◌, ℕ, ◌≤◌, Bool, true, false, ◌||◌, List, [], ◌∷◌, codes, Option, Some, None, if◌then◌else◌}
+-- C89 programs (ISO/IEC 9899:1990, 6.3 to 6.7), as far as a text is written in them.
+use Rattle.std.specs.Prelude.{ℕ, Bool, true, false, ◌&&◌, List, [], ◌∷◌, Option, Some, None, if◌then◌else◌}
 use Rattle.std.specs.Str.{bytes_eq}
 use Rattle.c_model.specs.declared.numbers.BinOp.{BinOp}
-use Rattle.c_model.specs.FirstTokens.{is_nondigit, is_word_byte, begins_with}
+use Rattle.c_model.specs.declared.operators.LogicOp.{LogicOp}
+use Rattle.c_model.specs.Types89.{Type89, Types89, no_types, more_types, Function as FunctionType}
 
--- an expression of type int; a constant is a number without a sign
-pub data Expr : Type 0 where
-  Constant : (number : ℕ) → Expr
-  Binary : (op : BinOp) (left right : Expr) → Expr
+-- the letters behind a constant, which say its type: int, unsigned int, long or unsigned long
+pub data Suffix : Type 0 where
+  Plain : Suffix
+  U : Suffix
+  L : Suffix
+  UL : Suffix
 
--- a statement
-pub data Stat : Type 0 where
-  Return : (value : Expr) → Stat
+-- a unary operator
+pub data Prefix : Type 0 where
+  Minus : Prefix
+  Complement : Prefix
+  Not : Prefix
+  Deref : Prefix
+  AddressOf : Prefix
+
+mutual
+  -- an expression; a constant is a number without a sign
+  pub data Expr : Type 0 where
+    Name : (name : List ℕ) → Expr
+    Constant : (number : ℕ) (suffix : Suffix) → Expr
+    Index : (left right : Expr) → Expr
+    Member : (structure : Expr) (name : List ℕ) → Expr
+    Arrow : (pointer : Expr) (name : List ℕ) → Expr
+    Call : (function : Expr) (arguments : Exprs) → Expr
+    Unary : (op : Prefix) (operand : Expr) → Expr
+    Binary : (op : BinOp) (left right : Expr) → Expr
+    Logic : (op : LogicOp) (left right : Expr) → Expr
+    Choice : (condition first second : Expr) → Expr
+    Cast : (type : Type89) (operand : Expr) → Expr
+
+  pub data Exprs : Type 0 where
+    no_exprs : Exprs
+    more_exprs : (first : Expr) (others : Exprs) → Exprs
+
+-- an object of a type, or a member or parameter
+pub record Declaration : Type 0 where
+  pub type : Type89
+  pub name : List ℕ
+
+pub data Label : Type 0 where
+  Case : (value : Expr) → Label
+  Default : Label
+
+mutual
+  pub data Stat : Type 0 where
+    Evaluate : (value : Expr) → Stat
+    Assign : (left right : Expr) → Stat
+    Empty : Stat
+    Block : (objects : List Declaration) (body : Stats) → Stat
+    If : (condition : Expr) (objects : List Declaration) (body : Stats) → Stat
+    IfElse : (condition : Expr) (objects : List Declaration) (body : Stats) (other_objects : List Declaration) (other_body : Stats) → Stat
+    Forever : (objects : List Declaration) (body : Stats) → Stat
+    Switch : (value : Expr) (items : Items) → Stat
+    Break : Stat
+    Continue : Stat
+    ReturnNothing : Stat
+    Return : (value : Expr) → Stat
+
+  pub data Stats : Type 0 where
+    no_stats : Stats
+    more_stats : (first : Stat) (others : Stats) → Stats
+
+  -- the body of a switch: statements, each behind its labels
+  pub data Items : Type 0 where
+    no_items : Items
+    an_item : (labels : List Label) (stat : Stat) (others : Items) → Items
+
+mutual
+  -- an initial value: an expression, a string without the zero behind its bytes, or braces with one at least
+  pub data Init : Type 0 where
+    Value : (value : Expr) → Init
+    Text : (bytes : List ℕ) → Init
+    Braces : (first : Init) (others : Inits) → Init
+
+  pub data Inits : Type 0 where
+    no_inits : Inits
+    more_inits : (first : Init) (others : Inits) → Inits
 
 -- the storage class that a declaration is written with
 pub data Storage : Type 0 where
-  Plain : Storage
+  Plainly : Storage
   Static : Storage
   Extern : Storage
 
--- a declaration outside of functions: a prototype of a function without parameters and with the result int
-pub data Outer : Type 0 where
-  Prototype : (storage : Storage) (name : List ℕ) → Outer
+-- a structure: its tag alone, or with members
+pub data Structure : Type 0 where
+  Tag : (name : List ℕ) → Structure
+  Members : (name : List ℕ) (first : Declaration) (others : List Declaration) → Structure
 
--- a defined function without parameters and with the result int
+-- a declaration outside of functions, with its initial value where it has one
+pub record Outer : Type 0 where
+  pub storage : Storage
+  pub type : Type89
+  pub name : List ℕ
+  pub init : Option Init
+
+-- a defined function, whose parameters have names
 pub record Function : Type 0 where
   pub is_static : Bool
+  pub result : Type89
   pub name : List ℕ
-  pub body : List Stat
+  pub parameters : List Declaration
+  pub is_variadic : Bool
+  pub objects : List Declaration
+  pub body : Stats
 
 pub record Program : Type 0 where
+  pub structures : List Structure
   pub outers : List Outer
   pub functions : List Function
 
--- the words of C89, which are no names (6.1.1)
-abbrev pub words : List (List ℕ)
-words =
-    codes "auto" ∷ codes "break" ∷ codes "case" ∷ codes "char" ∷ codes "const" ∷ codes "continue" ∷ codes "default" ∷ codes "do"
-    ∷ codes "double" ∷ codes "else" ∷ codes "enum" ∷ codes "extern" ∷ codes "float" ∷ codes "for" ∷ codes "goto" ∷ codes "if"
-    ∷ codes "int" ∷ codes "long" ∷ codes "register" ∷ codes "return" ∷ codes "short" ∷ codes "signed" ∷ codes "sizeof" ∷ codes "static"
-    ∷ codes "struct" ∷ codes "switch" ∷ codes "typedef" ∷ codes "union" ∷ codes "unsigned" ∷ codes "void" ∷ codes "volatile" ∷ codes "while" ∷ []
+-- the types of declarations
+abbrev pub types_of : List Declaration → Types89
+types_of [] = no_types
+types_of (d ∷ ds) = more_types d.type (types_of ds)
 
--- all bytes pass the test
-abbrev pub AllBytes : (ℕ → Bool) → List ℕ → Type 0
-AllBytes test [] = Unit {0}
-AllBytes test (byte ∷ bytes) = (test byte ≡ true) × AllBytes test bytes
-
-abbrev pub is_among : List (List ℕ) → List ℕ → Bool
-is_among [] name = false
-is_among (other ∷ names) name = bytes_eq other name || is_among names name
-
--- a name is an identifier and no word (6.1.2)
-pub record IsName (name : List ℕ) : Type 0 where
-  pub begins : begins_with is_nondigit name ≡ true
-  pub goes_on : AllBytes is_word_byte name
-  pub is_no_word : is_among words name ≡ false
-
--- each constant is one of the values of int
-abbrev pub TypedExpr : Expr → Type 0
-TypedExpr (Constant number) = number ≤ 2147483647
-TypedExpr (Binary op left right) = TypedExpr left × TypedExpr right
-
-abbrev pub TypedStats : List Stat → Type 0
-TypedStats [] = Unit {0}
-TypedStats (Return value ∷ stats) = TypedExpr value × TypedStats stats
-
-abbrev pub TypedOuters : List Outer → Type 0
-TypedOuters [] = Unit {0}
-TypedOuters (Prototype storage name ∷ outers) = IsName name × TypedOuters outers
-
--- the name is that of one of the functions
-abbrev pub is_defined : List Function → List ℕ → Bool
-is_defined [] name = false
-is_defined (f ∷ fs) name = bytes_eq f.name name || is_defined fs name
-
--- each function has a name, which no other function has, and its expressions have types
-abbrev pub TypedFunctions : List Function → Type 0
-TypedFunctions [] = Unit {0}
-TypedFunctions (f ∷ fs) = IsName f.name × (is_defined fs f.name ≡ false) × TypedStats f.body × TypedFunctions fs
-
--- names are names, none is defined twice, and every expression has a type
-pub record Typed (program : Program) : Type 0 where
-  pub outers : TypedOuters program.outers
-  pub functions : TypedFunctions program.functions
+-- the type of a defined function
+abbrev pub function_type : Function → Type89
+function_type f = FunctionType f.result (types_of f.parameters) f.is_variadic
 
 -- the function of a name
 abbrev pub function_of : List Function → List ℕ → Option Function
 function_of [] name = None
 function_of (f ∷ fs) name = if bytes_eq f.name name then Some f else function_of fs name
+
+abbrev pub is_external : Storage → Option Init → Bool
+is_external Plainly init = true
+is_external Static init = false
+is_external Extern None = false
+is_external Extern (Some init) = true
+
+abbrev pub is_object : Type89 → Bool
+is_object (FunctionType result parameters is_variadic) = false
+is_object type = true
+
+-- the external object of a name, where it is defined
+abbrev pub external_object : List Outer → List ℕ → Option Outer
+external_object [] name = None
+external_object (o ∷ os) name =
+    if bytes_eq o.name name && is_object o.type && is_external o.storage o.init then Some o else external_object os name

@@ -1,73 +1,73 @@
--- The grammar of the C89 text, production by production (ISO/IEC 9899:1990, 6.3 to 6.7, in one layout),
--- and what a text reads as.
-use Rattle.std.specs.Prelude.{◌≡◌, ℕ, Bool, true, false, List, [], ◌∷◌, ◌++◌, codes}
-use Rattle.std.specs.Fmt.{decimal}
-use Rattle.c_model.specs.declared.numbers.BinOp.{BinOp}
-use Rattle.c_model.specs.Signs89.{sign_text}
-use Rattle.c_model.specs.Program89.{Expr, Constant, Binary, Stat, Return, Storage, Plain, Static, Extern, Outer, Prototype, Function, Program, Typed}
+-- The grammar of the C89 text outside of functions (ISO/IEC 9899:1990, 6.5 and 6.7, in one layout), and what a
+-- text reads as.
+use Rattle.std.specs.Prelude.{◌≡◌, ℕ, List, [], ◌∷◌, ◌++◌, codes, Option, Some, None}
+use Rattle.c_model.specs.Signs89.{storage_text, storage_of}
+use Rattle.c_model.specs.SpellingParts89.{declaration_text}
+use Rattle.c_model.specs.Spelling89.{bytes_text, head_text}
+use Rattle.c_model.specs.ReadingParts89.{ReadsExpr, ReadsObjects, ReadsBody}
+use Rattle.c_model.specs.Typing89.{Typed}
+use Rattle.c_model.specs.Program89 as tree
 
--- E = constant | "(" E " " B " " E ")"
-pub data ReadsExpr : List ℕ → Expr → Type 0 where
-  reads_constant : (text : List ℕ) (number : ℕ) → text ≡ decimal number → ReadsExpr text (Constant number)
-  reads_binary : (text : List ℕ) (op : BinOp) (left right : Expr) (first second : List ℕ) → ReadsExpr first left → ReadsExpr second right → text ≡ codes "(" ++ (first ++ (codes " " ++ (sign_text op ++ (codes " " ++ (second ++ codes ")"))))) → ReadsExpr text (Binary op left right)
+mutual
+  -- init = E | string | "{" init { ", " init } "}"
+  pub data ReadsInit : List ℕ → tree.Init → Type 0 where
+    reads_value : (text : List ℕ) (e : tree.Expr) → ReadsExpr text e → ReadsInit text (tree.Value e)
+    reads_string : (text bytes : List ℕ) → text ≡ codes "\"" ++ (bytes_text bytes ++ codes "\"") → ReadsInit text (tree.Text bytes)
+    reads_braces : (text : List ℕ) (init : tree.Init) (inits : tree.Inits) (first rest : List ℕ) → ReadsInit first init → ReadsInits rest inits → text ≡ codes "{" ++ (first ++ (rest ++ codes "}")) → ReadsInit text (tree.Braces init inits)
 
--- stat = "    return " E ";" NL
-pub data ReadsStat : List ℕ → Stat → Type 0 where
-  reads_return : (text : List ℕ) (value : Expr) (inner : List ℕ) → ReadsExpr inner value → text ≡ codes "    return " ++ (inner ++ codes ";\n") → ReadsStat text (Return value)
+  -- { ", " init }
+  pub data ReadsInits : List ℕ → tree.Inits → Type 0 where
+    reads_no_init : (text : List ℕ) → text ≡ [] → ReadsInits text tree.no_inits
+    reads_inits : (text : List ℕ) (init : tree.Init) (inits : tree.Inits) (first rest : List ℕ) → ReadsInit first init → ReadsInits rest inits → text ≡ codes ", " ++ (first ++ rest) → ReadsInits text (tree.more_inits init inits)
 
--- { stat }
-pub data ReadsStats : List ℕ → List Stat → Type 0 where
-  reads_no_stat : (text : List ℕ) → text ≡ [] → ReadsStats text []
-  reads_stats : (text : List ℕ) (stat : Stat) (stats : List Stat) (first rest : List ℕ) → ReadsStat first stat → ReadsStats rest stats → text ≡ first ++ rest → ReadsStats text (stat ∷ stats)
+-- [ " = " init ]
+pub data ReadsValue : List ℕ → Option tree.Init → Type 0 where
+  reads_no_value : (text : List ℕ) → text ≡ [] → ReadsValue text None
+  reads_a_value : (text : List ℕ) (init : tree.Init) (inner : List ℕ) → ReadsInit inner init → text ≡ codes " = " ++ inner → ReadsValue text (Some init)
 
--- [ "static " | "extern " ]
-pub data ReadsStorage : List ℕ → Storage → Type 0 where
-  reads_plain : (text : List ℕ) → text ≡ [] → ReadsStorage text Plain
-  reads_static : (text : List ℕ) → text ≡ codes "static " → ReadsStorage text Static
-  reads_extern : (text : List ℕ) → text ≡ codes "extern " → ReadsStorage text Extern
-
--- "int " N "(void)"
-abbrev pub ReadsDeclaration : List ℕ → (name : List ℕ) → Type 0
-ReadsDeclaration text name = text ≡ codes "int " ++ (name ++ codes "(void)")
-
--- [ "static " | "extern " ] decl ";" NL
-pub data ReadsOuter : List ℕ → Outer → Type 0 where
-  reads_prototype : (text : List ℕ) (storage : Storage) (name first second : List ℕ) → ReadsStorage first storage → ReadsDeclaration second name → text ≡ first ++ (second ++ codes ";\n") → ReadsOuter text (Prototype storage name)
-
--- { outer }
-pub data ReadsOuters : List ℕ → List Outer → Type 0 where
-  reads_no_outer : (text : List ℕ) → text ≡ [] → ReadsOuters text []
-  reads_outers : (text : List ℕ) (outer : Outer) (outers : List Outer) (first rest : List ℕ) → ReadsOuter first outer → ReadsOuters rest outers → text ≡ first ++ rest → ReadsOuters text (outer ∷ outers)
-
--- the storage class of a function that is defined
-abbrev pub storage_of : Bool → Storage
-storage_of true = Static
-storage_of false = Plain
-
--- [ "static " ] decl NL "{" NL body "}" NL
-pub record ReadsFunction (text : List ℕ) (f : Function) : Type 0 where
-  pub first : List ℕ
-  pub second : List ℕ
+-- outer ";" NL, with outer = [ "extern " | "static " ] d(T, N) [ " = " init ]
+pub record ReadsOuter (text : List ℕ) (outer : tree.Outer) : Type 0 where
   pub inner : List ℕ
-  pub storage : ReadsStorage first (storage_of f.is_static)
-  pub declaration : ReadsDeclaration second f.name
-  pub body : ReadsStats inner f.body
-  pub parts : text ≡ first ++ (second ++ (codes "\n{\n" ++ (inner ++ codes "}\n")))
+  pub value : ReadsValue inner outer.init
+  pub parts : text ≡ storage_text outer.storage ++ (declaration_text outer.type outer.name ++ (inner ++ codes ";\n"))
+
+-- { outer ";" NL }
+pub data ReadsOuters : List ℕ → List tree.Outer → Type 0 where
+  reads_no_outer : (text : List ℕ) → text ≡ [] → ReadsOuters text []
+  reads_outers : (text : List ℕ) (outer : tree.Outer) (outers : List tree.Outer) (first rest : List ℕ) → ReadsOuter first outer → ReadsOuters rest outers → text ≡ first ++ rest → ReadsOuters text (outer ∷ outers)
+
+-- structure = "struct " N ";" NL | "struct " N " {" NL "    " d(T, N) ";" NL { "    " d(T, N) ";" NL } "};" NL
+pub data ReadsStructure : List ℕ → tree.Structure → Type 0 where
+  reads_tag : (text name : List ℕ) → text ≡ codes "struct " ++ (name ++ codes ";\n") → ReadsStructure text (tree.Tag name)
+  reads_members : (text name : List ℕ) (d : tree.Declaration) (ds : List tree.Declaration) (inner : List ℕ) → ReadsObjects 1 inner (d ∷ ds) → text ≡ codes "struct " ++ (name ++ (codes " {\n" ++ (inner ++ codes "};\n"))) → ReadsStructure text (tree.Members name d ds)
+
+-- { structure }
+pub data ReadsStructures : List ℕ → List tree.Structure → Type 0 where
+  reads_no_structure : (text : List ℕ) → text ≡ [] → ReadsStructures text []
+  reads_structures : (text : List ℕ) (s : tree.Structure) (ss : List tree.Structure) (first rest : List ℕ) → ReadsStructure first s → ReadsStructures rest ss → text ≡ first ++ rest → ReadsStructures text (s ∷ ss)
+
+-- function = [ "static " ] d(T, N "(" parameters ")") NL "{" NL body "}" NL
+pub record ReadsFunction (text : List ℕ) (f : tree.Function) : Type 0 where
+  pub inner : List ℕ
+  pub body : ReadsBody 1 inner f.objects f.body
+  pub parts : text ≡ storage_text (storage_of f.is_static) ++ (declaration_text f.result (head_text f) ++ (codes "\n{\n" ++ (inner ++ codes "}\n")))
 
 -- { NL function }
-pub data ReadsFunctions : List ℕ → List Function → Type 0 where
+pub data ReadsFunctions : List ℕ → List tree.Function → Type 0 where
   reads_no_function : (text : List ℕ) → text ≡ [] → ReadsFunctions text []
-  reads_functions : (text : List ℕ) (f : Function) (fs : List Function) (first rest : List ℕ) → ReadsFunction first f → ReadsFunctions rest fs → text ≡ codes "\n" ++ (first ++ rest) → ReadsFunctions text (f ∷ fs)
+  reads_functions : (text : List ℕ) (f : tree.Function) (fs : List tree.Function) (first rest : List ℕ) → ReadsFunction first f → ReadsFunctions rest fs → text ≡ codes "\n" ++ (first ++ rest) → ReadsFunctions text (f ∷ fs)
 
--- program = { outer } { NL function }
-pub record ReadsProgram (text : List ℕ) (program : Program) : Type 0 where
+-- program = { structure } { outer ";" NL } { NL function }
+pub record ReadsProgram (text : List ℕ) (program : tree.Program) : Type 0 where
   pub first : List ℕ
   pub second : List ℕ
-  pub outers : ReadsOuters first program.outers
-  pub functions : ReadsFunctions second program.functions
-  pub parts : text ≡ first ++ second
+  pub third : List ℕ
+  pub structures : ReadsStructures first program.structures
+  pub outers : ReadsOuters second program.outers
+  pub functions : ReadsFunctions third program.functions
+  pub parts : text ≡ first ++ (second ++ third)
 
 -- the text reads as this typed program
-pub record Reads89 (text : List ℕ) (program : Program) : Type 0 where
+pub record Reads89 (text : List ℕ) (program : tree.Program) : Type 0 where
   pub spelled : ReadsProgram text program
   pub typed : Typed program

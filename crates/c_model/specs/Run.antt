@@ -110,6 +110,10 @@ turn state next = turn_of state.turns state next
 abbrev pub take_turn : Act (Unit {0})
 take_turn = λ s. turn s (Goes tt)
 
+-- the number of a new call
+abbrev pub new_call : Act ℕ
+new_call = λ s. Goes s.calls (record s { calls = suc s.calls })
+
 -- one of two parts
 abbrev pub choose : {A : Type 0} → Bool → Act A → Act A → Act A
 choose true yes_part no_part = yes_part

@@ -8,7 +8,7 @@ use Rattle.c_model.specs.Memory.{Numbered, Local, Null, Code, Value}
 use Rattle.c_model.specs.Accesses.{store_to}
 use Rattle.c_model.specs.Outside.{Answering, call_outside}
 use Rattle.c_model.specs.Allocation.{Builtin, call_builtin}
-use Rattle.c_model.specs.Run.{Run, State, Step, Goes, Act, ◌▷◌, just, ends, Undefined, Out, take_turn, start_with, answer_of, run_of}
+use Rattle.c_model.specs.Run.{Run, Step, Act, ◌▷◌, just, ends, Undefined, Out, take_turn, start_with, new_call, answer_of, run_of}
 use Rattle.c_model.specs.CoreTypes.{pointee, shape_of}
 use Rattle.c_model.specs.SourceFrame.{Callee, enter_scope, leave_scope}
 use Rattle.c_model.specs.SourceCalls.{builtin_of, passed, answering}
@@ -22,10 +22,6 @@ bind core call [] [] = just tt
 bind core call (id ∷ ids) (v ∷ vs) =
     store_to None (shape_of core.structs (object_type_of core id)) (Local call (Numbered id)) (pos 0) v ▷ (λ u. bind core call ids vs)
 bind core call _ _ = ends (Undefined BadCall None)
-
--- the number of a new call
-abbrev pub new_call : Act ℕ
-new_call = λ s. Goes s.calls (record s { calls = suc s.calls })
 
 -- a body, between the entry of the parameters' scope and its end
 abbrev pub enter_body : unit.Core → Callee → (bound : ℕ) → List ℕ → unit.Stat → List Value → (call : ℕ) → Act Value
@@ -85,13 +81,13 @@ abbrev pub call_entry : unit.Core → (bound : ℕ) → Option unit.Function →
 call_entry core bound None arguments = ends (Undefined BadCall None)
 call_entry core bound (Some g) arguments = call_defined core bound None g true arguments
 
--- what becomes of an entry on arguments, from this memory, with n turns to take
-abbrev pub run_from : (n : ℕ) → unit.Core → (entry : List ℕ) → (arguments : List Value) → (world : List ℤ) → State → Step Value
-run_from n core entry arguments world =
+-- what becomes of an entry on arguments, from a state, with n turns to take
+abbrev pub run_from : (n : ℕ) → unit.Core → (entry : List ℕ) → (arguments : List Value) → Act Value
+run_from n core entry arguments =
     statics core ▷ (λ u. call_entry core n (unit.function_of core.functions entry) arguments)
 
 abbrev pub ended23 : (n : ℕ) → unit.Core → (entry : List ℕ) → (arguments : List Value) → (world : List ℤ) → Step Value
-ended23 n core entry arguments world = run_from n core entry arguments world (start_with (start_memory core) n world)
+ended23 n core entry arguments world = run_from n core entry arguments (start_with (start_memory core) n world)
 
 -- the run of an entry on arguments, with n turns to take
 abbrev pub run23 : (n : ℕ) → unit.Core → (entry : List ℕ) → (arguments : List Value) → (world : List ℤ) → Run
