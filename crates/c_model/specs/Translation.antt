@@ -54,7 +54,7 @@ abbrev pub Agree : StructNames → (List ℕ → CType → Type 0) → (List ℕ
 Agree names Defined Written =
     (name : List ℕ)
     → ((type : CType) → Defined name type → Written name (written_type names type))
-      × ((written : Type89) → Written name written → (type : CType) × Defined name type × (written ≡ written_type names type))
+    × ((written : Type89) → Written name written → (type : CType) × Defined name type × (written ≡ written_type names type))
 
 -- the program defines exactly the external functions and objects that the unit defines, under their names
 -- and with their types
