@@ -7,9 +7,9 @@ use Rattle.std.proofs.lemmas.Bool.Decides.{nat_tests}
 use Rattle.std.proofs.lemmas.Fmt.{decimal_by_steps}
 use Rattle.c_model.specs.declared.numbers.BinOp.{BinOp}
 use Rattle.c_model.specs.declared.numbers.BinOp.TheVariants.{Mul, Div, Rem, Add, Sub, ShiftLeft, ShiftRight, Less, Greater, LessEqual, GreaterEqual, Equal, NotEqual, BitAnd, BitXor, BitOr}
-use Rattle.c_model.specs.FirstTokens.{is_digit, is_word_byte, begins_with}
+use Rattle.c_model.specs.FirstTokens.{is_digit, is_word_byte, begins_with, AllBytes}
 use Rattle.c_model.specs.Signs89.{sign_text}
-use Rattle.c_model.specs.Program89.{Expr, Constant, Binary, Stat, Return, Storage, Plain, Static, Extern, Outer, Prototype, Function, Program, Typed, TypedExpr, TypedStats, TypedOuters, TypedFunctions, AllBytes, IsName}
+use Rattle.c_model.specs.Program89.{Expr, Constant, Binary, Stat, Return, Storage, Plain, Static, Extern, Outer, Prototype, Function, Program, Typed, TypedExpr, TypedStats, TypedOuters, TypedFunctions, IsName}
 use Rattle.c_model.specs.Spelling89.{expr_text, stat_text, stats_text, storage_text, declaration_text, outer_text, outers_text, static_text, function_text, functions_text, canonical}
 use Rattle.c_model.specs.Reading89.{Reads89}
 use Rattle.c_model.proofs.Spelled.{program_spelled}

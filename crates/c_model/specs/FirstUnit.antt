@@ -1,16 +1,24 @@
 -- The grammar of the units `int main(void) { return E; }`, with the core of each (ISO/IEC 9899:2024,
 -- 6.5.6, 6.5.7 and 6.9.2), and the token with which no such unit can go on.
-use Rattle.std.specs.Prelude.{◌≡◌, ◌⊎◌, ℕ, ◌+◌, ◌-◌, ◌*◌, ◌<◌, ◌≤◌, pos, true, List, [], ◌∷◌, ◌++◌, map, take, length, codes}
-use Rattle.std.specs.Fmt.{decimal}
+use Rattle.std.specs.Prelude.{◌≡◌, ℕ, ◌+◌, ◌-◌, ◌*◌, ◌<◌, ◌≤◌, pos, true, List, [], ◌∷◌, ◌++◌, map, take, length, codes}
 use Rattle.cake_base.specs.declared.places.Place.{Place}
 use Rattle.c_model.specs.declared.numbers.BinOp.{BinOp}
 use Rattle.c_model.specs.declared.numbers.BinOp.TheVariants.{Mul, Add, Sub}
-use Rattle.c_model.specs.FirstTokens.{Token}
+use Rattle.c_model.specs.FirstTokens.{Token, is_digit, begins_with, AllBytes}
 use Rattle.c_model.specs.Core.{Expr, Constant, Binary, Return, Function, Core}
 
--- a constant is spelled in decimal, and is one of the values of int
-abbrev pub IsConstant : List ℕ → ℕ → Type 0
-IsConstant text number = (text ≡ decimal number) × (number ≤ 2147483647)
+-- the value of decimal digits that stand behind a number
+abbrev pub digits_value : (before : ℕ) → List ℕ → ℕ
+digits_value before [] = before
+digits_value before (digit ∷ digits) = digits_value (10 * before + (digit - 48)) digits
+
+-- a decimal constant of type int: 0, or digits of which the first isn't 0, up to the greatest int
+pub record IsConstant (text : List ℕ) (number : ℕ) : Type 0 where
+  pub some : begins_with is_digit text ≡ true
+  pub digits : AllBytes is_digit text
+  pub no_leading_zero : (rest : List ℕ) → text ≡ codes "0" ++ rest → rest ≡ []
+  pub value : digits_value 0 text ≡ number
+  pub fits : number ≤ 2147483647
 
 mutual
   -- sum = product | sum ("+" | "-") product

@@ -2,7 +2,7 @@
 use Rattle.std.specs.Prelude.{◌≡◌, ℕ, ◌≤◌, Bool, true, false, ◌||◌, List, [], ◌∷◌, codes, Option, Some, None, if◌then◌else◌}
 use Rattle.std.specs.Str.{bytes_eq}
 use Rattle.c_model.specs.declared.numbers.BinOp.{BinOp}
-use Rattle.c_model.specs.FirstTokens.{is_nondigit, is_word_byte, begins_with}
+use Rattle.c_model.specs.FirstTokens.{is_nondigit, is_word_byte, begins_with, AllBytes}
 
 -- an expression of type int; a constant is a number without a sign
 pub data Expr : Type 0 where
@@ -40,11 +40,6 @@ words =
     ∷ codes "double" ∷ codes "else" ∷ codes "enum" ∷ codes "extern" ∷ codes "float" ∷ codes "for" ∷ codes "goto" ∷ codes "if"
     ∷ codes "int" ∷ codes "long" ∷ codes "register" ∷ codes "return" ∷ codes "short" ∷ codes "signed" ∷ codes "sizeof" ∷ codes "static"
     ∷ codes "struct" ∷ codes "switch" ∷ codes "typedef" ∷ codes "union" ∷ codes "unsigned" ∷ codes "void" ∷ codes "volatile" ∷ codes "while" ∷ []
-
--- all bytes pass the test
-abbrev pub AllBytes : (ℕ → Bool) → List ℕ → Type 0
-AllBytes test [] = Unit {0}
-AllBytes test (byte ∷ bytes) = (test byte ≡ true) × AllBytes test bytes
 
 abbrev pub is_among : List (List ℕ) → List ℕ → Bool
 is_among [] name = false

@@ -4,7 +4,9 @@
 //! shares with them, and the laws of the definitions.
 #![tactic(auto)]
 
+pub mod first_tokens;
 pub mod laws;
 pub mod numbers;
 pub mod outcomes;
+pub mod positions;
 pub mod tokens;
