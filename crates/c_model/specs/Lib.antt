@@ -14,6 +14,7 @@ pub mod TargetRun
 pub mod Translation
 pub mod FirstTokens
 pub mod FirstUnit
+pub mod FirstRow
 pub mod Verdict
 pub mod Words
 pub mod Answer
