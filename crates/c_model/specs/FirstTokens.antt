@@ -1,8 +1,11 @@
 -- The tokens of a first unit's text (ISO/IEC 9899:2024, 6.4): blanks, tabs and line feeds part them;
 -- names and numbers are the longest that fit, and every other byte is a token of its own.
-use Rattle.std.specs.Prelude.{ℕ, zero, suc, ◌+◌, Bool, true, false, ◌&&◌, ◌||◌, ◌==◌, nat_le, List, [], ◌∷◌, length, take, if◌then◌else◌}
+use Rattle.std.specs.Prelude.{◌≡◌, ℕ, zero, suc, ◌+◌, Bool, true, false, ◌&&◌, ◌||◌, ◌==◌, nat_le, List, [], ◌∷◌, length, take, if◌then◌else◌}
 use Rattle.cake_base.specs.declared.places.Place.{Place}
-use Rattle.c_model.specs.Place.{Position, first_position, behind, behind_all, main_place}
+use Rattle.c_model.specs.declared.positions.Position.{Position}
+use Rattle.c_model.specs.declared.first_tokens.Before.{Before}
+use Rattle.c_model.specs.declared.first_tokens.Before.TheVariants.{Exponent, Separator, Other}
+use Rattle.c_model.specs.Place.{first_position, behind, behind_all, main_place}
 
 -- a token: its bytes and its place
 pub record Token : Type 0 where
@@ -30,17 +33,15 @@ abbrev pub begins_with : (ℕ → Bool) → List ℕ → Bool
 begins_with test [] = false
 begins_with test (byte ∷ bytes) = test byte
 
+-- all bytes pass the test
+abbrev pub AllBytes : (ℕ → Bool) → List ℕ → Type 0
+AllBytes test [] = Unit {0}
+AllBytes test (byte ∷ bytes) = (test byte ≡ true) × AllBytes test bytes
+
 -- how many bytes go on with a name
 abbrev pub name_rest : List ℕ → ℕ
 name_rest [] = 0
 name_rest (byte ∷ bytes) = if is_word_byte byte then suc (name_rest bytes) else 0
-
--- what stands before a byte of a number: an exponent's letter, behind which a sign may follow; a digit
--- separator; or anything else
-pub data Before : Type 0 where
-  Exponent : Before
-  Separator : Before
-  Other : Before
 
 abbrev pub is_exponent : ℕ → Bool
 is_exponent byte = (byte == 101) || (byte == 69) || (byte == 112) || (byte == 80)

@@ -1,19 +1,28 @@
 -- The grammar of the units `int main(void) { return E; }`, with the core of each (ISO/IEC 9899:2024,
 -- 6.5.6, 6.5.7 and 6.9.2), and the token with which no such unit can go on.
-use Rattle.std.specs.Prelude.{◌≡◌, ℕ, ◌+◌, ◌<◌, ◌≤◌, pos, true, false, List, [], ◌∷◌, ◌++◌, map, take, length, codes}
-use Rattle.std.specs.Fmt.{decimal}
+use Rattle.std.specs.Prelude.{◌≡◌, ℕ, ◌+◌, ◌-◌, ◌*◌, ◌<◌, ◌≤◌, ℤ, pos, true, false, List, [], ◌∷◌, ◌++◌, map, take, length, codes}
 use Rattle.cake_base.specs.declared.places.Place.{Place}
+use Rattle.c_model.specs.declared.numbers.BinOp.{BinOp}
 use Rattle.c_model.specs.declared.numbers.BinOp.TheVariants.{Mul, Add, Sub}
 use Rattle.c_model.specs.declared.marks.Mark.{Mark}
 use Rattle.c_model.specs.declared.marks.Span.{Span}
 use Rattle.c_model.specs.CoreTypes.{int_type, plain}
 use Rattle.c_model.specs.Types.{CType, Function as FunctionForm, no_types}
-use Rattle.c_model.specs.FirstTokens.{Token}
+use Rattle.c_model.specs.FirstTokens.{Token, is_digit, begins_with, AllBytes}
 use Rattle.c_model.specs.Core.{Expr, Constant, Binary, Return, Block, an_expr, a_stat, stats, Named, Core}
 
--- a constant is spelled in decimal, and is one of the values of int
-abbrev pub IsConstant : List ℕ → ℕ → Type 0
-IsConstant text number = (text ≡ decimal number) × (number ≤ 2147483647)
+-- the value of decimal digits that stand behind a number
+abbrev pub digits_value : (before : ℕ) → List ℕ → ℕ
+digits_value before [] = before
+digits_value before (digit ∷ digits) = digits_value (10 * before + (digit - 48)) digits
+
+-- a decimal constant of type int: 0, or digits of which the first isn't 0, up to the greatest int
+pub record IsConstant (text : List ℕ) (number : ℕ) : Type 0 where
+  pub some : begins_with is_digit text ≡ true
+  pub digits : AllBytes is_digit text
+  pub no_leading_zero : (rest : List ℕ) → text ≡ codes "0" ++ rest → rest ≡ []
+  pub value : digits_value 0 text ≡ number
+  pub fits : number ≤ 2147483647
 
 -- the mark of an expression; these units have no rule that asks for its first tokens
 abbrev pub mark_at : Place → Mark
@@ -21,6 +30,13 @@ mark_at place = record { at = place; first = place; outer = place }
 
 abbrev pub span_at : Place → Span
 span_at place = record { first = place; last = place }
+
+-- a constant of type int, and an operation on two values of it, at their places
+abbrev pub int_constant : ℤ → Place → Expr
+int_constant value place = Constant value int_type (mark_at place)
+
+abbrev pub int_operation : BinOp → Expr → Expr → Place → Expr
+int_operation op left right place = Binary op left right (mark_at place)
 
 -- `int (void)`
 abbrev pub main_type : CType
@@ -30,17 +46,17 @@ mutual
   -- sum = product | sum ("+" | "-") product
   pub data IsSum : List Token → Expr → Type 0 where
     one_product : (ts : List Token) (e : Expr) → IsProduct ts e → IsSum ts e
-    added : (ts : List Token) (left right : List Token) (sign : Token) (a b : Expr) → sign.text ≡ codes "+" → IsSum left a → IsProduct right b → ts ≡ left ++ sign ∷ right → IsSum ts (Binary Add a b (mark_at sign.place))
-    subtracted : (ts : List Token) (left right : List Token) (sign : Token) (a b : Expr) → sign.text ≡ codes "-" → IsSum left a → IsProduct right b → ts ≡ left ++ sign ∷ right → IsSum ts (Binary Sub a b (mark_at sign.place))
+    added : (ts : List Token) (left right : List Token) (sign : Token) (a b : Expr) → sign.text ≡ codes "+" → IsSum left a → IsProduct right b → ts ≡ left ++ sign ∷ right → IsSum ts (int_operation Add a b sign.place)
+    subtracted : (ts : List Token) (left right : List Token) (sign : Token) (a b : Expr) → sign.text ≡ codes "-" → IsSum left a → IsProduct right b → ts ≡ left ++ sign ∷ right → IsSum ts (int_operation Sub a b sign.place)
 
   -- product = primary | product "*" primary
   pub data IsProduct : List Token → Expr → Type 0 where
     one_primary : (ts : List Token) (e : Expr) → IsPrimary ts e → IsProduct ts e
-    multiplied : (ts : List Token) (left right : List Token) (sign : Token) (a b : Expr) → sign.text ≡ codes "*" → IsProduct left a → IsPrimary right b → ts ≡ left ++ sign ∷ right → IsProduct ts (Binary Mul a b (mark_at sign.place))
+    multiplied : (ts : List Token) (left right : List Token) (sign : Token) (a b : Expr) → sign.text ≡ codes "*" → IsProduct left a → IsPrimary right b → ts ≡ left ++ sign ∷ right → IsProduct ts (int_operation Mul a b sign.place)
 
   -- primary = constant | "(" sum ")"
   pub data IsPrimary : List Token → Expr → Type 0 where
-    constant : (ts : List Token) (token : Token) (number : ℕ) → IsConstant token.text number → ts ≡ token ∷ [] → IsPrimary ts (Constant (pos number) int_type (mark_at token.place))
+    constant : (ts : List Token) (token : Token) (number : ℕ) → IsConstant token.text number → ts ≡ token ∷ [] → IsPrimary ts (int_constant (pos number) token.place)
     parenthesised : (ts : List Token) (open_ close : Token) (inner : List Token) (e : Expr) → open_.text ≡ codes "(" → close.text ≡ codes ")" → IsSum inner e → ts ≡ open_ ∷ (inner ++ close ∷ []) → IsPrimary ts e
 
 -- the words of a unit before its `return`

@@ -64,6 +64,7 @@ pub mod Examples
 pub mod ExampleList
 pub mod FirstTokens
 pub mod FirstUnit
+pub mod FirstRow
 pub mod Verdict
 pub mod Words
 pub mod Answer

@@ -1,7 +1,7 @@
 -- The names of a C89 program (ISO/IEC 9899:1990, 6.1.1, 6.1.2).
 use Rattle.std.specs.Prelude.{◌≡◌, ℕ, Bool, true, false, ◌||◌, List, [], ◌∷◌, codes}
 use Rattle.std.specs.Str.{bytes_eq}
-use Rattle.c_model.specs.FirstTokens.{is_nondigit, is_word_byte, begins_with}
+use Rattle.c_model.specs.FirstTokens.{is_nondigit, is_word_byte, begins_with, AllBytes}
 
 -- the words of C89, which are no names (6.1.1)
 abbrev pub words : List (List ℕ)
@@ -10,11 +10,6 @@ words =
     ∷ codes "double" ∷ codes "else" ∷ codes "enum" ∷ codes "extern" ∷ codes "float" ∷ codes "for" ∷ codes "goto" ∷ codes "if"
     ∷ codes "int" ∷ codes "long" ∷ codes "register" ∷ codes "return" ∷ codes "short" ∷ codes "signed" ∷ codes "sizeof" ∷ codes "static"
     ∷ codes "struct" ∷ codes "switch" ∷ codes "typedef" ∷ codes "union" ∷ codes "unsigned" ∷ codes "void" ∷ codes "volatile" ∷ codes "while" ∷ []
-
--- all bytes pass the test
-abbrev pub AllBytes : (ℕ → Bool) → List ℕ → Type 0
-AllBytes test [] = Unit {0}
-AllBytes test (byte ∷ bytes) = (test byte ≡ true) × AllBytes test bytes
 
 abbrev pub is_among : List (List ℕ) → List ℕ → Bool
 is_among [] name = false

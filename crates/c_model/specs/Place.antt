@@ -2,16 +2,13 @@
 -- translation.
 use Rattle.std.specs.Prelude.{ℕ, ◌+◌, ◌<◌, List, [], ◌∷◌, ◌==◌, if◌then◌else◌}
 use Rattle.cake_base.specs.declared.places.Place.{Place}
+use Rattle.c_model.specs.declared.positions.Position.{Position}
 
 -- a place comes before another where its order is smaller
 abbrev pub IsBefore : Place → Place → Type 0
 IsBefore place other = place.order < other.order
 
--- a line and a column in bytes, both counted from 1
-pub record Position : Type 0 where
-  pub line : ℕ
-  pub column : ℕ
-
+-- the first line and column, both counted from 1
 abbrev pub first_position : Position
 first_position = record { line = 1; column = 1 }
 

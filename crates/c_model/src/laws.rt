@@ -1,9 +1,17 @@
 //! Laws of the definitions: each function does nothing, and its contract is the law.
-ghost use Rattle.std.specs.Prelude.{◌≡◌, ℕ, List};
+ghost use Rattle.std.specs.Prelude.{◌≡◌, ℕ, ℤ, pos, List, [], Some, codes};
 ghost use Rattle.c_model.specs.Program89.{Program};
 ghost use Rattle.c_model.specs.Typing89.{Typed};
 ghost use Rattle.c_model.specs.Spelling89.{canonical};
 ghost use Rattle.c_model.specs.Reading89.{Reads89};
+ghost use Rattle.c_model.specs.Memory.{Single, Number};
+ghost use Rattle.c_model.specs.Run.{Returned, Undefined};
+ghost use Rattle.c_model.specs.SourceRun.{run23};
+ghost use Rattle.c_model.specs.TargetRun.{run89};
+ghost use Rattle.c_model.specs.Verdict.{IsCore, IsVerdictOn};
+ghost use Rattle.c_model.specs.FirstRow.{at, seven_text, seven_core, seven_program, seven_written, overflow_text, overflow_core};
+
+use crate::outcomes::Cause;
 
 /// What is spelled reads as the program that it is the spelling of.
 pub fn spelled_text_reads()
@@ -13,4 +21,26 @@ pub fn spelled_text_reads()
 /// What reads as a program is its one spelling.
 pub fn read_text_is_spelled()
     ensures { (text : List ℕ) (program : Program) → Reads89 text program → canonical program ≡ text }
+{}
+
+/// The text of a first unit has its core as its verdict.
+pub fn seven_is_a_unit()
+    ensures { IsVerdictOn seven_text (IsCore seven_core) }
+{}
+
+/// Its `main` returns 7 with one turn, whatever the world.
+pub fn seven_returns_7()
+    ensures { (world : List ℤ) → run23 1 seven_core (codes "main") [] world ≡ record { events = []; moves = []; ending = Returned (Single (Number (pos 7))) } }
+{}
+
+/// The text that was written for it reads as its program, and that returns 7 too.
+pub fn seven_is_written()
+    ensures reads { Reads89 seven_written seven_program }
+    ensures runs { (world : List ℤ) → run89 1 seven_program (codes "main") [] world ≡ record { events = []; moves = []; ending = Returned (Single (Number (pos 7))) } }
+{}
+
+/// A sum past the greatest int is a unit, and its run is undefined at the operator.
+pub fn overflow_is_undefined()
+    ensures unit { IsVerdictOn overflow_text (IsCore overflow_core) }
+    ensures run { (world : List ℤ) → run23 1 overflow_core (codes "main") [] world ≡ record { events = []; moves = []; ending = Undefined Cause.Overflow (Some (at 36 8)) } }
 {}

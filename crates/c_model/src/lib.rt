@@ -5,10 +5,12 @@
 #![tactic(auto)]
 
 pub mod examples;
+pub mod first_tokens;
 pub mod laws;
 pub mod marks;
 pub mod numbers;
 pub mod operators;
 pub mod outcomes;
+pub mod positions;
 pub mod tokens;
 pub mod types;

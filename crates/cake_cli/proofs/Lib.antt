@@ -1,0 +1,13 @@
+pub mod Lines
+pub mod Scanning
+pub mod DecimalConstants
+pub mod Steps
+pub mod Complete
+pub mod Sound
+pub mod Verdicts
+pub mod Runs
+pub mod DueReports
+pub mod UniqueVerdict
+pub mod Outcomes
+pub mod Promises
+pub mod FileReports

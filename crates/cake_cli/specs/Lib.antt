@@ -1,0 +1,10 @@
+pub mod Codes
+pub mod BadWord
+pub mod Blanks
+pub mod Scanned
+pub mod Reader
+pub mod Views
+pub mod ReadsAs
+pub mod Lowered
+pub mod Promise
+pub mod Reports

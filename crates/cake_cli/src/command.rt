@@ -1,0 +1,124 @@
+//! The command: its words, its files and its two sinks, to a status.
+ghost use Rattle.std.specs.Prelude.{◌≡◌, ◌≢◌, ◌⊎◌, map, string_bytes, IfOk};
+ghost use Rattle.c_model.specs.Words.{plan};
+ghost use Rattle.c_model.specs.Answer.{Answer};
+ghost use Rattle.cake_cli.specs.Promise.{call_of, IsDue, ForDue, AreRead, AreBad, IsWritten, IsRefused, IsUnreadable, IsExcused, Exactly, PutsProgram, ErrGets, PutFailed, ReadFailed, NothingOnOut, NothingOnErr, NoFault, Reads};
+ghost use Rattle.cake_cli.specs.Reports.{ReportsFile, Sent, Outcome};
+ghost use Rattle.cake_base.specs.Outside.{FilesView, SinkView, ReadKeeps};
+
+use crate::report::{Report, report_on, unreadable};
+use crate::status::Status;
+use crate::words::{read_words, usage_line};
+use cake_base::{Files, NoMemory, ReadFault, Sink};
+use std::alloc::Global;
+
+/// Puts the text on err and then that on out, where they aren't empty.
+fn deliver<O: Sink, E: Sink>(
+    status: Status,
+    out_text: &[u8],
+    err_text: &[u8],
+    out: &mut O,
+    err: &mut E,
+) -> Status
+    ensures { (files files' : FilesView) → Sent status out_text.now err_text.now (call_of files files' (O.shows out.old) (O.shows out.new) (E.shows err.old) (E.shows err.new)) result }
+{
+    if !err_text.is_empty() && err.put(err_text).is_err() {
+        return Status::WriteFault;
+    }
+    if !out_text.is_empty() && out.put(out_text).is_err() {
+        return Status::WriteFault;
+    }
+    status
+}
+
+/// Reads the main file and makes its report.
+fn read_report<F: Files>(alloc: Global, name: &str, files: &mut F) -> Result<Report, NoMemory>
+    ensures report { IfOk result (λ r. (out out' err err' : SinkView) → ReportsFile name.now (call_of (F.shows files.old) (F.shows files.new) out out' err err') r) }
+    ensures reads { ReadKeeps (F.shows files.old) (F.shows files.new) }
+{
+    let mut text = Vec::new(alloc);
+    match files.read(alloc, name, &mut text) {
+        Ok(()) => report_on(alloc, name, &text),
+        Err(ReadFault::NoMemory) => Err(NoMemory),
+        Err(ReadFault::Missing) => unreadable(alloc, name),
+        Err(ReadFault::TooLarge) => unreadable(alloc, name),
+        Err(ReadFault::Failed) => unreadable(alloc, name),
+    }
+}
+
+/// Words to status, by the definitions.
+fn run<F: Files, O: Sink, E: Sink>(
+    alloc: Global,
+    words: &[String],
+    files: &mut F,
+    out: &mut O,
+    err: &mut E,
+) -> Status
+    ensures outcome { let c = call_of (F.shows files.old) (F.shows files.new) (O.shows out.old) (O.shows out.new) (E.shows err.old) (E.shows err.new) in
+        let p = plan (map string_bytes words.now) in
+        ForDue p c (λ due. Outcome p due c result) }
+    ensures reads { Reads (plan (map string_bytes words.now)) (call_of (F.shows files.old) (F.shows files.new) (O.shows out.old) (O.shows out.new) (E.shows err.old) (E.shows err.new)) }
+{
+    let name = match read_words(words) {
+        Ok(name) => name,
+        Err(error) => return deliver(Status::Usage, b"", usage_line(error.number()), out, err),
+    };
+    match read_report(alloc, name, files) {
+        Ok(report) => deliver(
+            report.status,
+            report.out.as_slice(),
+            report.err.as_slice(),
+            out,
+            err,
+        ),
+        Err(NoMemory) => Status::NoMemory,
+    }
+}
+
+/// The command: reads its words, reads the file that they name, and puts a text on err and then
+/// one on out.
+///
+/// Answers as `Status` says. The text on out, where it answers `Written`, is a C89 program
+/// (ISO/IEC 9899:1990) that behaves as the C23 unit in the file (ISO/IEC 9899:2024), wherever that
+/// has a defined behaviour. It takes memory only where the words have a reading, and none once its
+/// texts are built.
+pub fn cake<F: Files, O: Sink, E: Sink>(
+    alloc: Global,
+    words: &[String],
+    files: &mut F,
+    out: &mut O,
+    err: &mut E,
+) -> Status
+    // A text that reads as a flat C89 program, exports what the unit defines and runs as it does.
+    ensures written { let c = call_of (F.shows files.old) (F.shows files.new) (O.shows out.old) (O.shows out.new) (E.shows err.old) (E.shows err.new) in let p = plan (map string_bytes words.now) in
+        result ≡ Status.Written → ForDue p c (λ due. PutsProgram due c) }
+
+    // What err gets: the text of the answer that is due, or nothing, or a prefix.
+    ensures err { let c = call_of (F.shows files.old) (F.shows files.new) (O.shows out.old) (O.shows out.new) (E.shows err.old) (E.shows err.new) in let p = plan (map string_bytes words.now) in
+        ForDue p c (λ due. ErrGets result p due c) }
+
+    // Each answer has its cause.
+    ensures refused { let c = call_of (F.shows files.old) (F.shows files.new) (O.shows out.old) (O.shows out.new) (E.shows err.old) (E.shows err.new) in let p = plan (map string_bytes words.now) in
+        ForDue p c (λ due. Exactly (result ≡ Status.Refused) (IsRefused due) (IsExcused result p c)) }
+    ensures usage { let c = call_of (F.shows files.old) (F.shows files.new) (O.shows out.old) (O.shows out.new) (E.shows err.old) (E.shows err.new) in let p = plan (map string_bytes words.now) in
+        Exactly (result ≡ Status.Usage) (AreBad p) (IsExcused result p c) }
+    ensures read_fault { let c = call_of (F.shows files.old) (F.shows files.new) (O.shows out.old) (O.shows out.new) (E.shows err.old) (E.shows err.new) in let p = plan (map string_bytes words.now) in
+        ForDue p c (λ due. (result ≡ Status.ReadFault → IsUnreadable due ⊎ (AreRead p × ReadFailed c)) × (IsUnreadable due → (result ≡ Status.ReadFault) ⊎ IsExcused result p c)) }
+    ensures write_fault { let c = call_of (F.shows files.old) (F.shows files.new) (O.shows out.old) (O.shows out.new) (E.shows err.old) (E.shows err.new) in let p = plan (map string_bytes words.now) in
+        result ≡ Status.WriteFault → ForDue p c (λ due. PutFailed p due c) }
+    ensures no_memory { let c = call_of (F.shows files.old) (F.shows files.new) (O.shows out.old) (O.shows out.new) (E.shows err.old) (E.shows err.new) in let p = plan (map string_bytes words.now) in
+        result ≡ Status.NoMemory → AreRead p × NothingOnOut c × NothingOnErr c }
+    ensures limit { result ≢ Status.Limit }
+
+    // A valid unit is written, where no count of faults rose.
+    ensures complete { let c = call_of (F.shows files.old) (F.shows files.new) (O.shows out.old) (O.shows out.new) (E.shows err.old) (E.shows err.new) in let p = plan (map string_bytes words.now) in
+        ForDue p c (λ due. IsWritten due → NoFault c → (result ≡ Status.Written) ⊎ (result ≡ Status.NoMemory)) }
+
+    // Nothing else is put on out, and nothing else is read.
+    ensures out { let c = call_of (F.shows files.old) (F.shows files.new) (O.shows out.old) (O.shows out.new) (E.shows err.old) (E.shows err.new) in
+        result ≢ Status.Written → result ≢ Status.WriteFault → NothingOnOut c }
+    ensures reads { let c = call_of (F.shows files.old) (F.shows files.new) (O.shows out.old) (O.shows out.new) (E.shows err.old) (E.shows err.new) in let p = plan (map string_bytes words.now) in
+        Reads p c }
+{
+    run(alloc, words, files, out, err)
+}
