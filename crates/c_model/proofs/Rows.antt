@@ -1,5 +1,5 @@
 -- The worked units, by computing the definitions.
-use Rattle.std.proofs.Common.{◌≡◌, ℕ, ℤ, ◌<◌, ◌≤◌, pos, List, [], ◌∷◌, ◌++◌, Some, length, refl, sym, ap, ◌∙◌, subst, arith, lit<, lit≤}
+use Rattle.std.proofs.Common.{◌≡◌, ℕ, ℤ, pos, List, [], ◌∷◌, ◌++◌, Some, refl, ap, ◌∙◌, subst, arith, lit<, lit≤}
 use Rattle.std.specs.Prelude.{codes}
 use Rattle.std.specs.Fmt.{decimal}
 use Rattle.std.proofs.lemmas.Fmt.{decimal_digit}
@@ -9,9 +9,8 @@ use Rattle.c_model.specs.Memory.{Single, Number}
 use Rattle.c_model.specs.Run.{Returned, Undefined}
 use Rattle.c_model.specs.SourceRun.{run23}
 use Rattle.c_model.specs.TargetRun.{run89}
-use Rattle.c_model.specs.Core.{Expr}
-use Rattle.c_model.specs.FirstTokens.{Token, tokens}
-use Rattle.c_model.specs.FirstUnit.{IsConstant, IsSum, IsProduct, IsPrimary, one_product, added, one_primary, multiplied, constant, IsUnit, int_constant, int_operation}
+use Rattle.c_model.specs.FirstTokens.{Token}
+use Rattle.c_model.specs.FirstUnit.{IsConstant, IsSum, IsProduct, IsPrimary, one_product, added, one_primary, multiplied, constant, int_constant, int_operation}
 use Rattle.c_model.specs.Verdict.{IsCore, IsVerdictOn}
 use Rattle.c_model.specs.Types89.{int_type}
 use Rattle.c_model.specs.Names89.{IsName}
@@ -74,21 +73,25 @@ seven_sum_is : IsSum seven_sum (int_operation Add (int_constant (pos 1) (at 25 7
 seven_sum_is = added seven_sum (token (codes "1") 25 7 ∷ []) product (token (codes "+") 27 8) _ _ refl (sum_of (codes "1") 25 7 1 is_one) product_is refl
 
 pub seven_is_a_unit : IsVerdictOn seven_text (IsCore seven_core)
-seven_is_a_unit = (lit≤ tt, lit≤ tt, record {
-  head = head;
-  return_ = token (codes "return") 18 6;
-  sum = seven_sum;
-  semicolon = token (codes ";") 34 12;
-  brace = token (codes "}") 36 13;
-  value = _;
-  parts = refl;
-  head_is = refl;
-  return_is = refl;
-  sum_is = seven_sum_is;
-  semicolon_is = refl;
-  brace_is = refl;
-  core_is = refl;
-})
+seven_is_a_unit = (
+  lit≤ tt,
+  lit≤ tt,
+  record {
+    head = head;
+    return_ = token (codes "return") 18 6;
+    sum = seven_sum;
+    semicolon = token (codes ";") 34 12;
+    brace = token (codes "}") 36 13;
+    value = _;
+    parts = refl;
+    head_is = refl;
+    return_is = refl;
+    sum_is = seven_sum_is;
+    semicolon_is = refl;
+    brace_is = refl;
+    core_is = refl;
+  },
+)
 
 pub seven_returns_7 : (world : List ℤ) → run23 1 seven_core (codes "main") [] world ≡ record { events = []; moves = []; ending = Returned (Single (Number (pos 7))) }
 seven_returns_7 world = refl
@@ -138,21 +141,25 @@ overflow_sum_is : IsSum overflow_sum (int_operation Add (int_constant (pos 21474
 overflow_sum_is = added overflow_sum (token (codes "2147483647") 25 7 ∷ []) (token (codes "1") 38 9 ∷ []) (token (codes "+") 36 8) _ _ refl (sum_of (codes "2147483647") 25 7 2147483647 is_greatest) (product_of (codes "1") 38 9 1 is_one) refl
 
 pub overflow_is_a_unit : IsVerdictOn overflow_text (IsCore overflow_core)
-overflow_is_a_unit = (lit≤ tt, lit≤ tt, record {
-  head = head;
-  return_ = token (codes "return") 18 6;
-  sum = overflow_sum;
-  semicolon = token (codes ";") 39 10;
-  brace = token (codes "}") 41 11;
-  value = _;
-  parts = refl;
-  head_is = refl;
-  return_is = refl;
-  sum_is = overflow_sum_is;
-  semicolon_is = refl;
-  brace_is = refl;
-  core_is = refl;
-})
+overflow_is_a_unit = (
+  lit≤ tt,
+  lit≤ tt,
+  record {
+    head = head;
+    return_ = token (codes "return") 18 6;
+    sum = overflow_sum;
+    semicolon = token (codes ";") 39 10;
+    brace = token (codes "}") 41 11;
+    value = _;
+    parts = refl;
+    head_is = refl;
+    return_is = refl;
+    sum_is = overflow_sum_is;
+    semicolon_is = refl;
+    brace_is = refl;
+    core_is = refl;
+  },
+)
 
 pub overflow_is_undefined : (world : List ℤ) → run23 1 overflow_core (codes "main") [] world ≡ record { events = []; moves = []; ending = Undefined Overflow (Some (at 36 8)) }
 overflow_is_undefined world = refl

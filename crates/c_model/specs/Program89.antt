@@ -144,4 +144,4 @@ is_object type = true
 abbrev pub external_object : List Outer → List ℕ → Option Outer
 external_object [] name = None
 external_object (o ∷ os) name =
-    if bytes_eq o.name name && is_object o.type && is_external o.storage o.init then Some o else external_object os name
+    if is_object o.type && is_external o.storage o.init && bytes_eq o.name name then Some o else external_object os name

@@ -1,6 +1,6 @@
 -- When a C89 program is typed (ISO/IEC 9899:1990, 6.1.2, 6.5, 6.7): each name is declared before its use, the
 -- objects of a function have names of their own, and what is defined is complete and defined once.
-use Rattle.std.specs.Prelude.{◌≡◌, ℕ, ◌+◌, Bool, true, false, ◌&&◌, ◌||◌, not, List, [], ◌∷◌, Option, Some, None, IsTrue, if◌then◌else◌}
+use Rattle.std.specs.Prelude.{◌≡◌, ℕ, ◌+◌, Bool, true, false, ◌&&◌, ◌||◌, not, List, [], ◌∷◌, Option, Some, None, if◌then◌else◌}
 use Rattle.std.specs.List.{list_all}
 use Rattle.std.specs.Str.{bytes_eq}
 use Rattle.c_model.specs.Types89.{Base, Void, Struct, Type89, Based, Pointer, Array, Function as FunctionType, Types89, no_types, more_types}

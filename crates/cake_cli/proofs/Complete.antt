@@ -4,11 +4,11 @@ use Rattle.std.proofs.lemmas.List.{length-map}
 use Rattle.std.specs.Prelude.{codes}
 use Rattle.c_model.specs.declared.numbers.BinOp.{BinOp}
 use Rattle.c_model.specs.declared.numbers.BinOp.TheVariants.{Mul, Add, Sub}
-use Rattle.c_model.specs.Core.{Expr, Constant, Binary}
+use Rattle.c_model.specs.Core.{Expr}
 use Rattle.c_model.specs.FirstTokens.{Token}
-use Rattle.c_model.specs.FirstUnit.{IsSum, IsProduct, IsPrimary, one_product, added, subtracted, one_primary, multiplied, constant, parenthesised, head_words, returning, IsConstant, IsUnit}
+use Rattle.c_model.specs.FirstUnit.{IsSum, IsProduct, IsPrimary, one_product, added, subtracted, one_primary, multiplied, constant, parenthesised, head_words, returning, IsConstant, IsUnit, int_constant, int_operation}
 use Rattle.c_model.specs.Core.{Core}
-use Rattle.cake_cli.specs.Reader.{Stage, Front, Operand, Operator, Tail, Whole, Waiting, Open, nothing_open, joined, closed, sign_of, past_sign}
+use Rattle.cake_cli.specs.Reader.{Front, Operand, Operator, Whole, Waiting, Open, nothing_open, joined, closed, sign_of, past_sign}
 use Rattle.cake_cli.proofs.Steps.{go, go-append, word_step, constant_step, open_step, close_step, end_step, brace_step, sign_step}
 
 abbrev waits : Option Waiting → Option Waiting → Open
@@ -24,28 +24,32 @@ ReadsProduct ts e = (sum : Option Waiting) (outer : List Open) → (last : Expr)
 abbrev ReadsPrimary : List Token → Expr → Type 0
 ReadsPrimary ts e = (here : Open) (outer : List Open) → go (Some (Operand here outer)) ts ≡ Some (Operator e here outer)
 
-additive_read : (op : BinOp) (left right : List Token) (t : Token) (a b : Expr) → ((last : Expr) (here : Open) (outer : List Open) → past_sign op t.place last here outer ≡ Operand (waits (Some (record { op = op; left = closed here last; place = t.place })) None) outer) → sign_of t.text ≡ Some op → ReadsSum left a → ReadsProduct right b → ReadsSum (left ++ t ∷ right) (Binary op a b t.place)
+additive_read : (op : BinOp) (left right : List Token) (t : Token) (a b : Expr) → ((last : Expr) (here : Open) (outer : List Open) → past_sign op t.place last here outer ≡ Operand (waits (Some (record { op = op; left = closed here last; place = t.place })) None) outer) → sign_of t.text ≡ Some op → ReadsSum left a → ReadsProduct right b → ReadsSum (left ++ t ∷ right) (int_operation op a b t.place)
 additive_read op left right t a b additive sign first second outer =
     let l = first outer in
     let w : Waiting = record { op = op; left = closed l.1 l.0; place = t.place } in
-    let r = second (Some w) outer in
-    (r.0, waits (Some w) r.1,
+    let r = second (Some w) outer in (
+      r.0,
+      waits (Some w) r.1,
       go-append (Some (Operand nothing_open outer)) left (t ∷ right)
-      ∙ ap (λ o. go o (t ∷ right)) l.2
-      ∙ ap (λ o. go o right) (sign_step t op l.0 l.1 outer sign ∙ ap Some (additive l.0 l.1 outer))
-      ∙ r.2,
-      ap (λ x. Binary op x (joined r.1 r.0) t.place) l.3 ∙ ap (λ x. Binary op a x t.place) r.3)
+          ∙ ap (λ o. go o (t ∷ right)) l.2
+          ∙ ap (λ o. go o right) (sign_step t op l.0 l.1 outer sign ∙ ap Some (additive l.0 l.1 outer))
+          ∙ r.2,
+      ap (λ x. int_operation op x (joined r.1 r.0) t.place) l.3 ∙ ap (λ x. int_operation op a x t.place) r.3,
+    )
 
-product_read_more : (left right : List Token) (t : Token) (a b : Expr) → sign_of t.text ≡ Some Mul → ReadsProduct left a → ReadsPrimary right b → ReadsProduct (left ++ t ∷ right) (Binary Mul a b t.place)
+product_read_more : (left right : List Token) (t : Token) (a b : Expr) → sign_of t.text ≡ Some Mul → ReadsProduct left a → ReadsPrimary right b → ReadsProduct (left ++ t ∷ right) (int_operation Mul a b t.place)
 product_read_more left right t a b sign first second sum outer =
     let l = first sum outer in
-    let w : Waiting = record { op = Mul; left = joined l.1 l.0; place = t.place } in
-    (b, Some w,
+    let w : Waiting = record { op = Mul; left = joined l.1 l.0; place = t.place } in (
+      b,
+      Some w,
       go-append (Some (Operand (waits sum None) outer)) left (t ∷ right)
-      ∙ ap (λ o. go o (t ∷ right)) l.2
-      ∙ ap (λ o. go o right) (sign_step t Mul l.0 (waits sum l.1) outer sign)
-      ∙ second (waits sum (Some w)) outer,
-      ap (λ x. Binary Mul x b t.place) l.3)
+          ∙ ap (λ o. go o (t ∷ right)) l.2
+          ∙ ap (λ o. go o right) (sign_step t Mul l.0 (waits sum l.1) outer sign)
+          ∙ second (waits sum (Some w)) outer,
+      ap (λ x. int_operation Mul x b t.place) l.3,
+    )
 
 parenthesised_read : (l r : Token) (inner : List Token) (e : Expr) → l.text ≡ codes "(" → r.text ≡ codes ")" → ReadsSum inner e → ReadsPrimary (l ∷ (inner ++ r ∷ [])) e
 parenthesised_read l r inner e begins ends read here outer =
@@ -62,21 +66,21 @@ product_as_sum ts e read outer = let r = read None outer in (r.0, waits None r.1
 primary_as_product : (ts : List Token) (e : Expr) → ReadsPrimary ts e → ReadsProduct ts e
 primary_as_product ts e read sum outer = (e, None, read (waits sum None) outer, refl)
 
-constant_as_primary : (ts : List Token) (t : Token) (n : ℕ) → IsConstant t.text n → ts ≡ t ∷ [] → ReadsPrimary ts (Constant (pos n) t.place)
+constant_as_primary : (ts : List Token) (t : Token) (n : ℕ) → IsConstant t.text n → ts ≡ t ∷ [] → ReadsPrimary ts (int_constant (pos n) t.place)
 constant_as_primary ts t n number is here outer = ap (go (Some (Operand here outer))) is ∙ constant_step t n here outer number
 
 mutual
   sum_read : (ts : List Token) (e : Expr) → IsSum ts e → ReadsSum ts e
   sum_read ts e (one_product us e' p) = product_as_sum us e' (product_read us e' p)
   sum_read ts e (added us left right t a b sign l r is) =
-      subst (λ vs. ReadsSum vs (Binary Add a b t.place)) (sym is) (additive_read Add left right t a b (λ last here outer. refl) (ap sign_of sign) (sum_read left a l) (product_read right b r))
+      subst (λ vs. ReadsSum vs (int_operation Add a b t.place)) (sym is) (additive_read Add left right t a b (λ last here outer. refl) (ap sign_of sign) (sum_read left a l) (product_read right b r))
   sum_read ts e (subtracted us left right t a b sign l r is) =
-      subst (λ vs. ReadsSum vs (Binary Sub a b t.place)) (sym is) (additive_read Sub left right t a b (λ last here outer. refl) (ap sign_of sign) (sum_read left a l) (product_read right b r))
+      subst (λ vs. ReadsSum vs (int_operation Sub a b t.place)) (sym is) (additive_read Sub left right t a b (λ last here outer. refl) (ap sign_of sign) (sum_read left a l) (product_read right b r))
 
   product_read : (ts : List Token) (e : Expr) → IsProduct ts e → ReadsProduct ts e
   product_read ts e (one_primary us e' p) = primary_as_product us e' (primary_read us e' p)
   product_read ts e (multiplied us left right t a b sign l r is) =
-      subst (λ vs. ReadsProduct vs (Binary Mul a b t.place)) (sym is) (product_read_more left right t a b (ap sign_of sign) (product_read left a l) (primary_read right b r))
+      subst (λ vs. ReadsProduct vs (int_operation Mul a b t.place)) (sym is) (product_read_more left right t a b (ap sign_of sign) (product_read left a l) (primary_read right b r))
 
   primary_read : (ts : List Token) (e : Expr) → IsPrimary ts e → ReadsPrimary ts e
   primary_read ts e (constant us t n number is) = constant_as_primary us t n number is

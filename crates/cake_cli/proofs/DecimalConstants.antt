@@ -1,8 +1,7 @@
 -- The reader takes a text as a constant exactly where it is one.
-use Rattle.std.proofs.Common.{◌≡◌, ℕ, zero, suc, ◌+◌, ◌-◌, ◌*◌, ◌≤◌, ◌==◌, List, [], ◌∷◌, ◌++◌, Bool, true, false, ◌&&◌, nat_le, Option, Some, None, if◌then◌else◌, refl, sym, ap, ◌∙◌, subst, arith}
-use Rattle.std.specs.Prelude.{codes}
+use Rattle.std.proofs.Common.{◌≡◌, ℕ, ◌+◌, ◌-◌, ◌*◌, ◌≤◌, ◌==◌, List, [], ◌∷◌, Bool, true, false, ◌&&◌, nat_le, Some, None, if◌then◌else◌, refl, sym, ap, ◌∙◌, subst, arith}
 use Rattle.std.proofs.lemmas.Bool.Decides.{nat_tests}
-use Rattle.c_model.specs.FirstTokens.{is_digit, begins_with, AllBytes}
+use Rattle.c_model.specs.FirstTokens.{is_digit, AllBytes}
 use Rattle.c_model.specs.FirstUnit.{digits_value, IsConstant}
 use Rattle.cake_cli.specs.Reader.{number_from, constant_of}
 
@@ -75,5 +74,5 @@ constant_complete [] number is = absurd (let h : false ≡ true = is.some in cc)
 constant_complete (b ∷ []) number is = number_complete 0 (b ∷ []) number is.digits is.value is.fits
 constant_complete (b ∷ c ∷ bs) number is =
     zero_step (b == 48) b c bs number refl
-      (λ e. let none : c ∷ bs ≡ [] = is.no_leading_zero (c ∷ bs) (ap (λ d. d ∷ c ∷ bs) e) in cc)
-      (number_complete 0 (b ∷ c ∷ bs) number is.digits is.value is.fits)
+    (λ e. let none : c ∷ bs ≡ [] = is.no_leading_zero (c ∷ bs) (ap (λ d. d ∷ c ∷ bs) e) in cc)
+    (number_complete 0 (b ∷ c ∷ bs) number is.digits is.value is.fits)

@@ -1,17 +1,15 @@
 -- Which answer is due, by what a read of the main file gave, and its report.
-use Rattle.std.proofs.Common.{◌≡◌, ◌≢◌, ◌⊎◌, ℕ, zero, suc, if◌then◌else◌, ◌+◌, ◌<◌, ◌≤◌, List, [], ◌∷◌, ◌++◌, length, Option, Some, None, Bool, true, false, nat_lt, refl, sym, ap, ◌∙◌, subst, arith, inl, inr, Result, Ok, Err, IfOk}
+use Rattle.std.proofs.Common.{◌≡◌, ℕ, zero, suc, if◌then◌else◌, ◌<◌, ◌≤◌, List, [], ◌∷◌, length, Option, Some, None, Bool, true, false, nat_lt, refl, sym, ap, subst, arith, inl, inr}
 use Rattle.std.proofs.lemmas.Bool.Decides.{nat_tests}
-use Rattle.std.specs.Str.{bytes_eq}
 use Rattle.std.proofs.lemmas.Slice.Eq.{bytes_eq-Decides}
 use Rattle.cake_base.specs.Outside.{Held, bytes_under, max_file, StandsUnder, IsMissing, IsTooLarge}
 use Rattle.cake_base.specs.declared.places.Place.{Place}
-use Rattle.c_model.specs.Core.{Core}
 use Rattle.c_model.specs.FirstTokens.{tokens, end_place}
 use Rattle.c_model.specs.FirstUnit.{returning}
 use Rattle.c_model.specs.Spelling89.{canonical}
 use Rattle.c_model.specs.Verdict.{Verdict, MainMissing, TooLarge, NotBuilt, IsCore, IsVerdictOn, IsVerdictOf, IsVerdict}
 use Rattle.c_model.specs.Words.{Plan, File, Bad}
-use Rattle.c_model.specs.Answer.{Answer, Usage, Unreadable, Refused, Written, err_text, answer_on, cannot_read_line, not_built_line, IsAnswer}
+use Rattle.c_model.specs.Answer.{Answer, Usage, Unreadable, answer_on, cannot_read_line, not_built_line, IsAnswer}
 use Rattle.cake_cli.specs.declared.report.Report.{Report}
 use Rattle.cake_cli.specs.declared.status.Status.TheVariants as status
 use Rattle.cake_cli.specs.declared.expression.Expr.{Expr}
@@ -20,7 +18,7 @@ use Rattle.cake_cli.specs.Views.{expr_of, target_of}
 use Rattle.cake_cli.specs.Lowered.{program_of}
 use Rattle.cake_cli.specs.ReadsAs.{ReadsAs}
 use Rattle.cake_cli.specs.Promise.{Call, AreHeld, IsDue, ReadFailed}
-use Rattle.cake_cli.specs.Reports.{status_of, IsReport, ReportsText, ReportsFile}
+use Rattle.cake_cli.specs.Reports.{ReportsText, ReportsFile}
 use Rattle.cake_cli.proofs.Verdicts.{reading_is_verdict}
 use Rattle.cake_cli.proofs.Runs.{delivers}
 
@@ -93,6 +91,7 @@ text_verdict false text test = by (reader.read_unit (tokens text) (end_place tex
   where
     within : (m n : ℕ) → nat_lt m n ≡ false → n ≤ m
     within m n h = grind (arith, nat_tests)
+
     by : (r : reader.Reading) → ReadsAs text r → (v : Verdict) × IsVerdictOn text v
     by (reader.Stops place) is = (NotBuilt place, is)
     by (reader.Reads value) is = (IsCore (returning value is.0), is.1)

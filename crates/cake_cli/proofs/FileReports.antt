@@ -1,5 +1,5 @@
 -- The report on the main file, by what its read gave.
-use Rattle.std.proofs.Common.{◌≡◌, ℕ, ◌≤◌, List, [], ◌++◌, length, Option, Some, Result, Ok, Err, IfOk, sym, ap, ◌∙◌, subst}
+use Rattle.std.proofs.Common.{◌≡◌, ℕ, ◌≤◌, List, [], ◌++◌, length, Some, Result, Ok, Err, IfOk, sym, ap, ◌∙◌, subst}
 use Rattle.cake_base.specs.Counts.{Rose}
 use Rattle.cake_base.specs.Outside.{FilesView, SinkView, StandsUnder, IsMissing, IsTooLarge, max_file}
 use Rattle.c_model.specs.Answer.{cannot_read_line}

@@ -1,13 +1,12 @@
 -- How a call comes out, case by case.
-use Rattle.std.proofs.Common.{◌≡◌, ◌⊎◌, ℕ, List, [], refl, sym, ap, ◌∙◌, subst, inl, inr}
-use Rattle.cake_base.specs.Outside.{Held}
+use Rattle.std.proofs.Common.{◌≡◌, ℕ, List, [], refl, sym, ◌∙◌, subst, inl, inr}
 use Rattle.c_model.specs.Words.{Plan, File, Bad}
-use Rattle.c_model.specs.Answer.{Answer, Usage, Unreadable, err_text, usage_line, cannot_read_line, IsAnswer}
+use Rattle.c_model.specs.Answer.{Usage, err_text, usage_line, cannot_read_line}
 use Rattle.cake_cli.specs.declared.report.Report.{Report}
 use Rattle.cake_cli.specs.declared.status.Status.{Status}
 use Rattle.cake_cli.specs.declared.status.Status.TheVariants as status
 use Rattle.cake_cli.specs.Promise.{Call, IsDue, ForDue, NothingOnOut, NothingOnErr}
-use Rattle.cake_cli.specs.Reports.{status_of, IsReport, ReportsFile, Sent, Outcome, as_due, no_memory, failed_read}
+use Rattle.cake_cli.specs.Reports.{ReportsFile, Sent, Outcome, as_due, no_memory, failed_read}
 use Rattle.cake_cli.proofs.DueReports.{some_due, usage_due}
 
 abbrev pub ComesOut : Plan → Call → Status → Type 0

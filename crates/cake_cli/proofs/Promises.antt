@@ -1,16 +1,16 @@
 -- The clauses of the command follow from how a call comes out.
-use Rattle.std.proofs.Common.{◌≡◌, ◌≢◌, ◌⊎◌, ℕ, ◌≤◌, List, [], ◌++◌, length, Option, Some, None, refl, sym, ap, ◌∙◌, subst, inl, inr, arith}
+use Rattle.std.proofs.Common.{◌≡◌, ◌≢◌, ◌⊎◌, ℕ, ◌≤◌, List, [], length, Option, Some, None, refl, sym, ap, ◌∙◌, subst, inl, inr, arith}
 use Rattle.std.proofs.lemmas.List.{append-nil}
 use Rattle.std.proofs.Math.Seq.{take-length}
 use Rattle.cake_base.specs.Outside.{appended}
 use Rattle.c_model.specs.Core.{Core}
 use Rattle.c_model.specs.Words.{Plan, File, Bad}
-use Rattle.c_model.specs.Answer.{Answer, Usage, Unreadable, Refused, Written, err_text, cannot_read_line, IsAnswer}
+use Rattle.c_model.specs.Answer.{Answer, Usage, Unreadable, Refused, Written, err_text, cannot_read_line}
 use Rattle.c_model.specs.Verdict.{MainMissing, TooLarge, NotBuilt, IsCore}
 use Rattle.cake_cli.specs.declared.status.Status.{Status}
 use Rattle.cake_cli.specs.declared.status.Status.TheVariants as status
-use Rattle.cake_cli.specs.Promise.{Call, ReadFailed, OutFailed, ErrFailed, NothingOnOut, NothingOnErr, PutsOnOut, PutsOnErr, PutsPrefixOnErr, IsDue, ForDue, AreRead, AreBad, IsWritten, IsRefused, IsUnreadable, IsExcused, Exactly, Delivers, PutsProgram, IsErrText, ErrGets, PutFailed, NoFault}
-use Rattle.cake_cli.specs.Reports.{status_of, IsOutText, Sent, all_put, err_failed, out_failed, Outcome, as_due, no_memory, failed_read}
+use Rattle.cake_cli.specs.Promise.{Call, ReadFailed, NothingOnOut, NothingOnErr, PutsOnOut, PutsOnErr, PutsPrefixOnErr, IsDue, ForDue, AreRead, AreBad, IsWritten, IsRefused, IsUnreadable, IsExcused, Exactly, Delivers, PutsProgram, ErrGets, PutFailed, NoFault}
+use Rattle.cake_cli.specs.Reports.{status_of, IsOutText, all_put, err_failed, out_failed, Outcome, as_due, no_memory, failed_read}
 use Rattle.cake_cli.proofs.Outcomes.{ComesOut}
 
 -- the words name the file
@@ -161,25 +161,34 @@ status_due plan due c result wanted never out e =
     sym (not_excused result plan c (subst (λ s. IsExcused s plan c → ⊥) (sym e) never) due (status_is plan due c result out)) ∙ e
 
 pub usage : (plan : Plan) (c : Call) (result : Status) → ComesOut plan c result → Exactly (result ≡ status.Usage) (AreBad plan) (IsExcused result plan c)
-usage plan c result (due, is, out) =
-    (λ e. usage_bad plan c due is (status_due plan due c result status.Usage (λ x. x) out e),
-     λ bad. by_status due plan c result status.Usage (bad_by plan c due bad is) (status_is plan due c result out))
+usage plan c result (due, is, out) = (
+  λ e. usage_bad plan c due is (status_due plan due c result status.Usage (λ x. x) out e),
+  λ bad. by_status due plan c result status.Usage (bad_by plan c due bad is) (status_is plan due c result out),
+)
 
 pub refused : (plan : Plan) (c : Call) (result : Status) → ComesOut plan c result → ForDue plan c (λ due. Exactly (result ≡ status.Refused) (IsRefused due) (IsExcused result plan c))
-refused plan c result (due, is, out) =
-    (due, is,
-     (λ e. refused_due due (status_due plan due c result status.Refused (λ x. x) out e),
-      λ r. by_status due plan c result status.Refused (due_refused due r) (status_is plan due c result out)))
+refused plan c result (due, is, out) = (
+  due,
+  is,
+  (
+    λ e. refused_due due (status_due plan due c result status.Refused (λ x. x) out e),
+    λ r. by_status due plan c result status.Refused (due_refused due r) (status_is plan due c result out),
+  ),
+)
 
 read_fault_by : (plan : Plan) (due : Answer) (c : Call) (result : Status) → (result ≡ status_of due) ⊎ IsExcused result plan c → result ≡ status.ReadFault → IsUnreadable due ⊎ (AreRead plan × ReadFailed c)
 read_fault_by plan due c result (inl e) r = inl (unreadable_due due (sym e ∙ r))
 read_fault_by plan due c result (inr x) r = inr (subst (λ s. IsExcused s plan c) r x)
 
 pub read_fault : (plan : Plan) (c : Call) (result : Status) → ComesOut plan c result → ForDue plan c (λ due. (result ≡ status.ReadFault → IsUnreadable due ⊎ (AreRead plan × ReadFailed c)) × (IsUnreadable due → (result ≡ status.ReadFault) ⊎ IsExcused result plan c))
-read_fault plan c result (due, is, out) =
-    (due, is,
-     (λ r. read_fault_by plan due c result (status_is plan due c result out) r,
-      λ u. by_status due plan c result status.ReadFault (due_unreadable due u) (status_is plan due c result out)))
+read_fault plan c result (due, is, out) = (
+  due,
+  is,
+  (
+    λ r. read_fault_by plan due c result (status_is plan due c result out) r,
+    λ u. by_status due plan c result status.ReadFault (due_unreadable due u) (status_is plan due c result out),
+  ),
+)
 
 no_write_fault : (due : Answer) → status.WriteFault ≡ status_of due → ⊥
 no_write_fault (Usage n) e = let h : status.WriteFault ≡ status.Usage = e in cc

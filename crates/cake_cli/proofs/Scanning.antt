@@ -1,7 +1,6 @@
 -- The scanner takes the tokens of the definitions.
-use Rattle.std.proofs.Common.{◌≡◌, ℕ, zero, suc, ◌+◌, ◌≤◌, List, [], ◌∷◌, ◌++◌, length, take, drop, Bool, true, false, if◌then◌else◌, refl, sym, ap, ◌∙◌, arith}
+use Rattle.std.proofs.Common.{◌≡◌, ℕ, zero, suc, ◌+◌, List, [], ◌∷◌, ◌++◌, length, take, drop, Bool, true, false, if◌then◌else◌, refl, sym, ap, ◌∙◌, arith}
 use Rattle.std.proofs.lemmas.List.{take-append-drop, append-nil}
-use Rattle.cake_base.specs.declared.places.Place.{Place}
 use Rattle.c_model.specs.declared.positions.Position.{Position}
 use Rattle.c_model.specs.Place.{behind, behind_all, main_place}
 use Rattle.c_model.specs.FirstTokens.{Token, is_blank, token_rest, tokens_from}

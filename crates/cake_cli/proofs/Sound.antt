@@ -1,5 +1,5 @@
 -- What the reader has read is a front of a unit of the grammar, which some tokens complete.
-use Rattle.std.proofs.Common.{◌≡◌, ℕ, zero, suc, ◌+◌, ◌-◌, ◌<◌, ◌≤◌, ◌==◌, List, [], ◌∷◌, ◌++◌, map, take, drop, length, Option, Some, None, Bool, true, false, if◌then◌else◌, pos, refl, sym, ap, ◌∙◌, subst, append_assoc, arith}
+use Rattle.std.proofs.Common.{◌≡◌, ℕ, zero, suc, ◌+◌, ◌-◌, ◌<◌, ◌≤◌, ◌==◌, List, [], ◌∷◌, ◌++◌, map, take, length, Option, Some, None, Bool, true, false, if◌then◌else◌, pos, refl, sym, ap, ◌∙◌, subst, append_assoc, arith}
 use Rattle.std.specs.Prelude.{codes}
 use Rattle.std.specs.Str.{bytes_eq}
 use Rattle.std.proofs.lemmas.Bool.Decides.{nat_tests}
@@ -7,9 +7,9 @@ use Rattle.std.proofs.lemmas.List.{append-nil}
 use Rattle.cake_base.specs.declared.places.Place.{Place}
 use Rattle.c_model.specs.declared.numbers.BinOp.{BinOp}
 use Rattle.c_model.specs.declared.numbers.BinOp.TheVariants.{Mul, Div, Rem, Add, Sub, ShiftLeft, ShiftRight, Less, Greater, LessEqual, GreaterEqual, Equal, NotEqual, BitAnd, BitXor, BitOr}
-use Rattle.c_model.specs.Core.{Expr, Constant, Binary}
+use Rattle.c_model.specs.Core.{Expr}
 use Rattle.c_model.specs.FirstTokens.{Token}
-use Rattle.c_model.specs.FirstUnit.{IsConstant, IsSum, IsProduct, IsPrimary, one_product, added, subtracted, one_primary, multiplied, constant, parenthesised, head_words, returning, IsUnit, CanGoOn}
+use Rattle.c_model.specs.FirstUnit.{IsConstant, IsSum, IsProduct, IsPrimary, one_product, added, subtracted, one_primary, multiplied, constant, parenthesised, head_words, returning, IsUnit, CanGoOn, int_constant, int_operation}
 use Rattle.cake_cli.specs.Reader.{Stage, Front, Operand, Operator, Tail, Whole, Waiting, Open, nothing_open, joined, closed, constant_of, sign_of, front_words, is_word_at, past_word, past_sum, past_product, past_sign, past_close, past_end, past_constant, past_operand, read_token}
 use Rattle.cake_cli.proofs.DecimalConstants.{constant_sound}
 use Rattle.cake_cli.proofs.Steps.{go, go-append, go-None, text_is, is_text, word_step, constant_step, close_step, end_step, brace_step}
@@ -89,19 +89,19 @@ nothing_read = record { first = []; second = []; sum = no_sum; product = no_prod
 product_closed : (product : Option Waiting) (ts us : List Token) (e : Expr) → ProductFront product ts → IsPrimary us e → IsProduct (ts ++ us) (joined product e)
 product_closed product ts us e no_product p = one_primary us e p
 product_closed product ts us e (times left sign a l is) p =
-    subst (λ vs. IsProduct vs (Binary Mul a e sign.place)) (sym (append_assoc left (sign ∷ []) us)) (multiplied (left ++ sign ∷ us) left us sign a e is l p refl)
+    subst (λ vs. IsProduct vs (int_operation Mul a e sign.place)) (sym (append_assoc left (sign ∷ []) us)) (multiplied (left ++ sign ∷ us) left us sign a e is l p refl)
 
 sum_closed : (sum : Option Waiting) (ts us : List Token) (e : Expr) → SumFront sum ts → IsProduct us e → IsSum (ts ++ us) (joined sum e)
 sum_closed sum ts us e no_sum p = one_product us e p
 sum_closed sum ts us e (plus left sign a l is) p =
-    subst (λ vs. IsSum vs (Binary Add a e sign.place)) (sym (append_assoc left (sign ∷ []) us)) (added (left ++ sign ∷ us) left us sign a e is l p refl)
+    subst (λ vs. IsSum vs (int_operation Add a e sign.place)) (sym (append_assoc left (sign ∷ []) us)) (added (left ++ sign ∷ us) left us sign a e is l p refl)
 sum_closed sum ts us e (minus left sign a l is) p =
-    subst (λ vs. IsSum vs (Binary Sub a e sign.place)) (sym (append_assoc left (sign ∷ []) us)) (subtracted (left ++ sign ∷ us) left us sign a e is l p refl)
+    subst (λ vs. IsSum vs (int_operation Sub a e sign.place)) (sym (append_assoc left (sign ∷ []) us)) (subtracted (left ++ sign ∷ us) left us sign a e is l p refl)
 
 open_closed : (here : Open) (ts us : List Token) (e : Expr) → OpenFront here ts → IsPrimary us e → IsSum (ts ++ us) (closed here e)
 open_closed here ts us e o p =
     subst (λ vs. IsSum vs (closed here e)) (sym (ap (λ vs. vs ++ us) o.parts ∙ append_assoc o.first o.second us))
-      (sum_closed here.sum o.first (o.second ++ us) (joined here.product e) o.sum (product_closed here.product o.second us e o.product p))
+    (sum_closed here.sum o.first (o.second ++ us) (joined here.product e) o.sum (product_closed here.product o.second us e o.product p))
 
 -- each step keeps what a stage says
 
@@ -142,6 +142,7 @@ other_word count ts t no_six holds is =
   where
     not_equal : (m n : ℕ) → (m == n) ≡ false → m ≡ n → ⊥
     not_equal m n test e = grind (arith, nat_tests)
+
     below : (n : ℕ) → suc n ≤ 7 → (n ≡ 6 → ⊥) → n + 1 ≤ 6
     below n h ne = omega (arith, h, ne)
 
@@ -272,7 +273,7 @@ open_keeps ts t here outer holds is = record {
   parts = ap (λ vs. vs ++ t ∷ []) holds.parts ∙ simp append_assoc;
 }
 
-constant_keeps : (ts : List Token) (t : Token) (number : ℕ) (here : Open) (outer : List Open) → Holds (Operand here outer) ts → constant_of t.text ≡ Some number → Holds (Operator (Constant (pos number) t.place) here outer) (ts ++ t ∷ [])
+constant_keeps : (ts : List Token) (t : Token) (number : ℕ) (here : Open) (outer : List Open) → Holds (Operand here outer) ts → constant_of t.text ≡ Some number → Holds (Operator (int_constant (pos number) t.place) here outer) (ts ++ t ∷ [])
 constant_keeps ts t number here outer holds is = record {
   before = ts;
   last = t ∷ [];
@@ -282,21 +283,24 @@ constant_keeps ts t number here outer holds is = record {
 }
 
 brace_keeps : (ts : List Token) (t : Token) (value : Expr) → Holds (Tail value) ts → t.text ≡ codes "}" → Holds (Whole value) (ts ++ t ∷ [])
-brace_keeps ts t value holds is = (holds.words.return_.place, record {
-  head = holds.words.head;
-  return_ = holds.words.return_;
-  sum = holds.sum;
-  semicolon = holds.semicolon;
-  brace = t;
-  value = value;
-  parts = ap (λ vs. vs ++ t ∷ []) (holds.parts ∙ ap (λ vs. vs ++ (holds.sum ++ holds.semicolon ∷ [])) holds.words.parts) ∙ simp append_assoc;
-  head_is = holds.words.head_is;
-  return_is = holds.words.return_is;
-  sum_is = holds.sum_is;
-  semicolon_is = holds.semicolon_is;
-  brace_is = is;
-  core_is = refl;
-})
+brace_keeps ts t value holds is = (
+  holds.words.return_.place,
+  record {
+    head = holds.words.head;
+    return_ = holds.words.return_;
+    sum = holds.sum;
+    semicolon = holds.semicolon;
+    brace = t;
+    value = value;
+    parts = ap (λ vs. vs ++ t ∷ []) (holds.parts ∙ ap (λ vs. vs ++ (holds.sum ++ holds.semicolon ∷ [])) holds.words.parts) ∙ simp append_assoc;
+    head_is = holds.words.head_is;
+    return_is = holds.words.return_is;
+    sum_is = holds.sum_is;
+    semicolon_is = holds.semicolon_is;
+    brace_is = is;
+    core_is = refl;
+  },
+)
 
 -- a step keeps what its stage says
 
@@ -307,7 +311,7 @@ if_some false stage next e = absurd (let h : None ≡ Some next = e in cc)
 constant_keeps_by : (o : Option ℕ) (ts : List Token) (t : Token) (here : Open) (outer : List Open) (next : Stage) → Holds (Operand here outer) ts → constant_of t.text ≡ o → past_constant o t.place here outer ≡ Some next → Holds next (ts ++ t ∷ [])
 constant_keeps_by None ts t here outer next holds is e = absurd (let h : None ≡ Some next = e in cc)
 constant_keeps_by (Some number) ts t here outer next holds is e =
-    subst (λ s. Holds s (ts ++ t ∷ [])) (let same : Operator (Constant (pos number) t.place) here outer ≡ next = cc in same) (constant_keeps ts t number here outer holds is)
+    subst (λ s. Holds s (ts ++ t ∷ [])) (let same : Operator (int_constant (pos number) t.place) here outer ≡ next = cc in same) (constant_keeps ts t number here outer holds is)
 
 operand_keeps_by : (b : Bool) (ts : List Token) (t : Token) (here : Open) (outer : List Open) (next : Stage) → Holds (Operand here outer) ts → bytes_eq t.text (codes "(") ≡ b → (if b then Some (Operand nothing_open (here ∷ outer)) else past_constant (constant_of t.text) t.place here outer) ≡ Some next → Holds next (ts ++ t ∷ [])
 operand_keeps_by true ts t here outer next holds is e =
@@ -381,7 +385,7 @@ zero_is = record { some = refl; digits = (refl, tt); no_leading_zero = λ rest i
 
 operand_finishes : (here : Open) (outer : List Open) → Finishes (Operand here outer)
 operand_finishes here outer =
-    finishes_by (Operand here outer) (Operator (Constant (pos 0) (token (codes "0")).place) here outer) (token (codes "0")) (constant_step (token (codes "0")) 0 here outer zero_is) (operator_finishes outer (Constant (pos 0) (token (codes "0")).place) here)
+    finishes_by (Operand here outer) (Operator (int_constant (pos 0) (token (codes "0")).place) here outer) (token (codes "0")) (constant_step (token (codes "0")) 0 here outer zero_is) (operator_finishes outer (int_constant (pos 0) (token (codes "0")).place) here)
 
 word_there : (words : List (List ℕ)) (count : ℕ) → count < length words → (word : List ℕ) × (is_word_at words count word ≡ true)
 word_there [] count h = absurd (omega arith)
@@ -397,8 +401,8 @@ front_finishes (suc n) count e =
     let word = word_there front_words count size in
     let next : Finishes (Front (count + 1)) = front_finishes n (count + 1) (omega arith) in
     finishes_by (Front count) (Front (count + 1)) (token word.0)
-      (word_step count (token word.0) word.0 refl word.1 ∙ ap (λ b. Some (if b then Operand nothing_open [] else Front (count + 1))) (no_six count (omega arith)))
-      next
+    (word_step count (token word.0) word.0 refl word.1 ∙ ap (λ b. Some (if b then Operand nothing_open [] else Front (count + 1))) (no_six count (omega arith)))
+    next
   where
     no_six : (k : ℕ) → k < 6 → (k == 6) ≡ false
     no_six k h = grind (arith, nat_tests)

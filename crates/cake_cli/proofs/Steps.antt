@@ -1,13 +1,12 @@
 -- The reader's steps over many tokens, each by the token that it takes.
-use Rattle.std.proofs.Common.{◌≡◌, ℕ, ◌+◌, ◌==◌, List, [], ◌∷◌, ◌++◌, Option, Some, None, Bool, true, false, if◌then◌else◌, pos, refl, sym, ap, ◌∙◌}
+use Rattle.std.proofs.Common.{◌≡◌, ℕ, List, [], ◌∷◌, ◌++◌, Option, Some, None, Bool, true, false, if◌then◌else◌, pos, refl, sym, ap, ◌∙◌}
 use Rattle.std.specs.Prelude.{codes}
 use Rattle.std.specs.Str.{bytes_eq}
 use Rattle.std.proofs.lemmas.Slice.Eq.{bytes_eq-Decides}
 use Rattle.c_model.specs.declared.numbers.BinOp.{BinOp}
-use Rattle.c_model.specs.declared.numbers.BinOp.TheVariants.{Mul, Add, Sub}
-use Rattle.c_model.specs.Core.{Expr, Constant}
+use Rattle.c_model.specs.Core.{Expr}
 use Rattle.c_model.specs.FirstTokens.{Token}
-use Rattle.c_model.specs.FirstUnit.{IsConstant}
+use Rattle.c_model.specs.FirstUnit.{IsConstant, int_constant}
 use Rattle.cake_cli.specs.Reader.{Stage, Front, Operand, Operator, Tail, Whole, Open, nothing_open, closed, constant_of, sign_of, front_words, is_word_at, past_word, past_constant, past_operand, past_sign, read_token}
 use Rattle.cake_cli.proofs.DecimalConstants.{constant_complete}
 
@@ -49,7 +48,7 @@ word_step count t word e test =
 no_parenthesis : (text : List ℕ) (n : ℕ) → constant_of text ≡ Some n → text ≡ codes "(" → ⊥
 no_parenthesis text n is e = let none : constant_of text ≡ None = ap constant_of e in let h : Some n ≡ None = sym is ∙ none in cc
 
-pub constant_step : (t : Token) (n : ℕ) (here : Open) (outer : List Open) → IsConstant t.text n → read_token (Operand here outer) t ≡ Some (Operator (Constant (pos n) t.place) here outer)
+pub constant_step : (t : Token) (n : ℕ) (here : Open) (outer : List Open) → IsConstant t.text n → read_token (Operand here outer) t ≡ Some (Operator (int_constant (pos n) t.place) here outer)
 constant_step t n here outer constant =
     let is = constant_complete t.text n constant in
     ap (λ b. if b then Some (Operand nothing_open (here ∷ outer)) else past_constant (constant_of t.text) t.place here outer) (no_text t.text (codes "(") (no_parenthesis t.text n is))

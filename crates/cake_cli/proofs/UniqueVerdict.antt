@@ -1,12 +1,11 @@
 -- Each text has one verdict.
-use Rattle.std.proofs.Common.{◌≡◌, ◌⊎◌, ℕ, ◌+◌, ◌-◌, ◌<◌, ◌≤◌, List, [], ◌∷◌, ◌++◌, take, drop, length, Bool, true, false, nat_lt, refl, sym, ap, ◌∙◌, subst, inl, inr, append_assoc, arith, length-take}
+use Rattle.std.proofs.Common.{◌≡◌, ◌⊎◌, ℕ, ◌+◌, ◌-◌, ◌<◌, ◌≤◌, List, ◌++◌, take, drop, length, refl, sym, ap, ◌∙◌, subst, inl, inr, append_assoc, arith}
 use Rattle.std.proofs.lemmas.Bool.Decides.{nat_tests}
 use Rattle.std.proofs.lemmas.List.{take-append-drop}
 use Rattle.std.proofs.Math.Seq.{take-add}
-use Rattle.cake_base.specs.Outside.{max_file}
 use Rattle.c_model.specs.Core.{Core}
-use Rattle.c_model.specs.FirstTokens.{Token, tokens, end_place, token_place}
-use Rattle.c_model.specs.FirstUnit.{IsUnit, returning, CanGoOn, StopsFor, no_unit_goes_on, too_many, too_few, StopsAt}
+use Rattle.c_model.specs.FirstTokens.{Token, tokens, token_place}
+use Rattle.c_model.specs.FirstUnit.{IsUnit, CanGoOn, StopsFor, no_unit_goes_on, too_many, too_few, StopsAt}
 use Rattle.c_model.specs.Verdict.{Verdict, MainMissing, TooLarge, NotBuilt, IsCore, IsVerdictOn}
 use Rattle.cake_cli.proofs.Complete.{one_unit}
 

@@ -1,10 +1,24 @@
 -- The C89 program of a unit.
-use Rattle.std.specs.Prelude.{false, [], ◌∷◌, codes}
-use Rattle.c_model.specs.Program89.{Expr, Return, Plain, Prototype, Program}
+use Rattle.std.specs.Prelude.{false, [], ◌∷◌, codes, None}
+use Rattle.c_model.specs.Types89.{Function as FunctionType, no_types, int_type}
+use Rattle.c_model.specs.Program89.{Expr, Return, more_stats, no_stats, Plainly, Function, Program}
 
--- the program whose main returns this value
+-- `main`, which returns this value
+abbrev pub main_of : Expr → Function
+main_of value = record {
+  is_static = false;
+  result = int_type;
+  name = codes "main";
+  parameters = [];
+  is_variadic = false;
+  objects = [];
+  body = more_stats (Return value) no_stats;
+}
+
+-- the program of it
 abbrev pub program_of : Expr → Program
 program_of value = record {
-  outers = Prototype Plain (codes "main") ∷ [];
-  functions = record { is_static = false; name = codes "main"; body = Return value ∷ [] } ∷ [];
+  structures = [];
+  outers = record { storage = Plainly; type = FunctionType int_type no_types false; name = codes "main"; init = None } ∷ [];
+  functions = main_of value ∷ [];
 }

@@ -1,11 +1,12 @@
 -- What the command promises, in the terms that its clauses cite.
-use Rattle.std.specs.Prelude.{◌≡◌, ◌⊎◌, ℕ, List, [], Option, Some, None}
+use Rattle.std.specs.Prelude.{◌≡◌, ◌⊎◌, ℕ, List, Option, Some, None}
 use Rattle.cake_base.specs.Counts.{Rose}
 use Rattle.cake_base.specs.Outside.{Held, FilesView, SinkView, ReadKeeps, Appends, AppendsPrefix}
 use Rattle.c_model.specs.Core.{Core}
 use Rattle.c_model.specs.Program89.{Program}
 use Rattle.c_model.specs.Reading89.{Reads89}
-use Rattle.c_model.specs.Translation.{Flat, Exports, Same}
+use Rattle.c_model.specs.Flat89.{Flat}
+use Rattle.c_model.specs.Translation.{Exports, Same}
 use Rattle.c_model.specs.Words.{Plan, File, Bad}
 use Rattle.c_model.specs.Answer.{Answer, Usage, Unreadable, Refused, Written, err_text, cannot_read_line, IsAnswer}
 use Rattle.cake_cli.specs.declared.status.Status.{Status}

@@ -1,12 +1,12 @@
 -- The reader's steps over the tokens of a unit, from the left.
-use Rattle.std.specs.Prelude.{ℕ, zero, suc, ◌+◌, ◌-◌, ◌*◌, pos, Bool, true, false, ◌&&◌, ◌||◌, ◌==◌, nat_lt, nat_le, List, [], ◌∷◌, ◌++◌, codes, Option, Some, None, if◌then◌else◌}
+use Rattle.std.specs.Prelude.{ℕ, zero, suc, ◌+◌, ◌-◌, ◌*◌, pos, Bool, false, ◌&&◌, ◌==◌, nat_le, List, [], ◌∷◌, ◌++◌, codes, Option, Some, None, if◌then◌else◌}
 use Rattle.std.specs.Str.{bytes_eq}
 use Rattle.cake_base.specs.declared.places.Place.{Place}
 use Rattle.c_model.specs.declared.numbers.BinOp.{BinOp}
 use Rattle.c_model.specs.declared.numbers.BinOp.TheVariants.{Mul, Add, Sub}
-use Rattle.c_model.specs.Core.{Expr, Constant, Binary}
+use Rattle.c_model.specs.Core.{Expr}
 use Rattle.c_model.specs.FirstTokens.{Token, is_digit}
-use Rattle.c_model.specs.FirstUnit.{head_words}
+use Rattle.c_model.specs.FirstUnit.{head_words, int_constant, int_operation}
 
 -- the value of digits behind a number, up to the greatest int
 abbrev pub number_from : ℕ → List ℕ → Option ℕ
@@ -40,7 +40,7 @@ nothing_open = record { sum = None; product = None }
 
 abbrev pub joined : Option Waiting → Expr → Expr
 joined None right = right
-joined (Some w) right = Binary w.op w.left right w.place
+joined (Some w) right = int_operation w.op w.left right w.place
 
 -- the expression between two parentheses
 abbrev pub closed : Open → Expr → Expr
@@ -90,7 +90,7 @@ past_end operand here (next ∷ outer) = None
 
 abbrev pub past_constant : Option ℕ → Place → Open → List Open → Option Stage
 past_constant None place here outer = None
-past_constant (Some number) place here outer = Some (Operator (Constant (pos number) place) here outer)
+past_constant (Some number) place here outer = Some (Operator (int_constant (pos number) place) here outer)
 
 abbrev pub past_operand : Option BinOp → Token → Expr → Open → List Open → Option Stage
 past_operand (Some op) token operand here outer = Some (past_sign op token.place operand here outer)

@@ -1,5 +1,5 @@
 -- What the reader's answer says of the text.
-use Rattle.std.specs.Prelude.{◌≡◌, ℕ, List}
+use Rattle.std.specs.Prelude.{ℕ, List}
 use Rattle.cake_base.specs.declared.places.Place.{Place}
 use Rattle.c_model.specs.FirstUnit.{returning}
 use Rattle.c_model.specs.Verdict.{NotBuilt, IsCore, IsVerdictOn}

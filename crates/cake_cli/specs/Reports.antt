@@ -1,8 +1,7 @@
 -- What is put, before it is put, and how a call comes out.
 use Rattle.std.specs.Prelude.{◌≡◌, ◌≢◌, ◌⊎◌, ℕ, List, []}
-use Rattle.cake_base.specs.Outside.{Held}
 use Rattle.c_model.specs.Verdict.{Verdict, IsVerdictOn}
-use Rattle.c_model.specs.Words.{Plan, File, Bad}
+use Rattle.c_model.specs.Words.{Plan, File}
 use Rattle.c_model.specs.Answer.{Answer, Usage, Unreadable, Refused, Written, err_text, answer_on, cannot_read_line}
 use Rattle.cake_cli.specs.declared.status.Status.{Status}
 use Rattle.cake_cli.specs.declared.status.Status.TheVariants as status

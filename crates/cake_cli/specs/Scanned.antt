@@ -1,5 +1,5 @@
 -- A text that is read token by token, as its definitions have it.
-use Rattle.std.specs.Prelude.{◌≡◌, ℕ, ◌+◌, List, [], ◌∷◌, length, Option, Some, None}
+use Rattle.std.specs.Prelude.{◌≡◌, ◌+◌, List, [], ◌∷◌, length, Option, Some, None}
 use Rattle.cake_base.specs.declared.places.Place.{Place}
 use Rattle.c_model.specs.Place.{behind_all, main_place}
 use Rattle.c_model.specs.FirstTokens as first

@@ -1,6 +1,5 @@
 -- The code's expressions and stages, as the reader's steps and the definitions have them.
-use Rattle.std.specs.Prelude.{ℕ, pos, List, [], ◌∷◌, Option, Some, None, map, reverse}
-use Rattle.cake_cli.specs.declared.constants.IntConstant.{IntConstant}
+use Rattle.std.specs.Prelude.{pos, List, Option, Some, None, map, reverse}
 use Rattle.cake_cli.specs.declared.expression.Expr.{Expr}
 use Rattle.cake_cli.specs.declared.expression.Expr.TheVariants.{Constant, Binary'}
 use Rattle.cake_cli.specs.declared.expression.Waiting.{Waiting}
@@ -9,17 +8,18 @@ use Rattle.cake_cli.specs.declared.reader.Stage.{Stage}
 use Rattle.cake_cli.specs.declared.reader.Stage.TheVariants.{Front, Operand, Operator, Tail, Whole}
 use Rattle.cake_cli.specs.declared.reader.Reading.{Reading}
 use Rattle.cake_cli.specs.declared.reader.Reading.TheVariants.{Stops, Reads}
+use Rattle.c_model.specs.FirstUnit.{int_constant, int_operation}
 use Rattle.c_model.specs.Core as source
 use Rattle.c_model.specs.Program89 as target
 use Rattle.cake_cli.specs.Reader as reader
 
 abbrev pub expr_of : Expr → source.Expr
-expr_of (Constant number place) = source.Constant (pos number.value) place
-expr_of (Binary' op p a q b place) = source.Binary op (expr_of a) (expr_of b) place
+expr_of (Constant number place) = int_constant (pos number.value) place
+expr_of (Binary' op p a q b place) = int_operation op (expr_of a) (expr_of b) place
 
 -- the expression of the text
 abbrev pub target_of : Expr → target.Expr
-target_of (Constant number place) = target.Constant number.value
+target_of (Constant number place) = target.Constant number.value target.Plain
 target_of (Binary' op p a q b place) = target.Binary op (target_of a) (target_of b)
 
 abbrev pub waiting_of : Waiting → reader.Waiting

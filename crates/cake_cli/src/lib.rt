@@ -13,7 +13,6 @@ mod status;
 mod tokens;
 mod words;
 
-
 pub use command::cake;
 pub use status::Status;
 pub use words::{WordsError, read_words};

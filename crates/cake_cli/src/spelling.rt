@@ -1,7 +1,8 @@
 //! The C89 text of a unit.
 ghost use Rattle.std.specs.Prelude.{◌≡◌, ◌++◌, IfOk, OnOk};
 ghost use Rattle.c_model.specs.Signs89.{sign_text};
-ghost use Rattle.c_model.specs.Spelling89.{expr_text, canonical};
+ghost use Rattle.c_model.specs.SpellingParts89.{expr_text};
+ghost use Rattle.c_model.specs.Spelling89.{canonical};
 ghost use Rattle.cake_cli.specs.Views.{target_of};
 ghost use Rattle.cake_cli.specs.Lowered.{program_of};
 

@@ -1,4 +1,4 @@
-use Rattle.std.proofs.Common.{◌≡◌, ◌≤◌, ◌+◌, drop, length}
+use Rattle.std.proofs.Common.{◌≡◌, ◌≤◌, ◌+◌, drop}
 use Rattle.c_model.specs.Place.{behind_all}
 use Rattle.cake_cli.proofs.scanner.behind_all.Given as goal
 

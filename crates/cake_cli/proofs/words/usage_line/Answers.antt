@@ -1,4 +1,4 @@
-use Rattle.std.proofs.Common.{◌≡◌, ◌<◌, ◌∙◌, ℕ, ap, sym, arith, lit<}
+use Rattle.std.proofs.Common.{◌≡◌, ◌∙◌, ap, sym, arith, lit<}
 use Rattle.c_model.specs.Answer.{usage_line}
 use Rattle.cake_cli.proofs.Lines.{usage_digit}
 use Rattle.cake_cli.proofs.words.usage_line.Goals as goal
