@@ -1,3 +1,4 @@
 pub mod Spelled
 pub mod Respelled
 pub mod Rows
+pub mod DefersAlike

@@ -33,6 +33,7 @@ pub mod SourceWords
 pub mod TypedCore
 pub mod SourceStart
 pub mod SourceStatements
+pub mod DefersInList
 pub mod SourceRun
 pub mod Types89
 pub mod Program89

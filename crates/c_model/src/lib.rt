@@ -12,5 +12,6 @@ pub mod numbers;
 pub mod operators;
 pub mod outcomes;
 pub mod positions;
+pub mod runs;
 pub mod tokens;
 pub mod types;
