@@ -1,5 +1,5 @@
 -- The rest of a block and then what is deferred is the same as a list of what is deferred.
-use Rattle.std.proofs.Common.{◌≡◌, ℕ, List, [], ◌∷◌, refl, sym, ap, ◌∙◌}
+use Rattle.std.proofs.Common.{◌≡◌, ℕ, List, [], ◌∷◌, refl, sym, ◌∙◌}
 use Rattle.c_model.specs.Run.{State, Step, Goes, Ends, Act, ◌▷◌, just, follow, Flow, Falls, Breaks, Continues, Gives, then_do}
 use Rattle.c_model.specs.SourceFrame.{Frame}
 use Rattle.c_model.specs.SourceStatements.{perform, perform_all}

@@ -1,13 +1,13 @@
 -- Calls of outside functions don't look at turns.
-use Rattle.std.proofs.Common.{◌≡◌, ℕ, zero, suc, ℤ, pos, Bool, true, false, List, [], ◌∷◌, Option, Some, None, Result, Ok, Err, if◌then◌else◌, refl, inl, arith}
+use Rattle.std.proofs.Common.{ℕ, suc, ℤ, pos, Bool, List, [], ◌∷◌, Option, Some, None, if◌then◌else◌, refl, inl, arith}
 use Rattle.std.specs.Ordering.{int_eq}
 use Rattle.cake_base.specs.declared.places.Place.{Place}
 use Rattle.c_model.specs.Memory.{Block, Global, Local, Heap, Handle, HandleOf, Outside, Given, Scalar, Number, Null, Address, Code, Value, Missing, Single, Structure, Contents, contents_of}
 use Rattle.c_model.specs.Accesses.{release_at}
 use Rattle.c_model.specs.Outside.{Passed, Answering, NoAnswer, IntegerAnswer, HandleAnswer, OtherAnswer, Handed, Shown, TextAt, Refused, all_handed, text_of, text_at, block_size, shown, all_shown, released_value, owners_released, nothing, take_answer, new_handle, integer_result, result_of, null_value, note, answered, with_handed, call_outside}
 use Rattle.c_model.specs.Allocation.{Builtin, Malloc, Calloc, Free, Exit, Abort, new_block, allocated, noted_free, freed, call_builtin}
-use Rattle.c_model.specs.Run.{Argument, State, Step, Act, ◌▷◌, just, ends, given, StringAt}
-use Rattle.c_model.proofs.Related.{Rel, plus, then_related, just_related, ends_related, given_related, if_related, release_related}
+use Rattle.c_model.specs.Run.{Argument, ◌▷◌, just, StringAt}
+use Rattle.c_model.proofs.Related.{Rel, then_related, just_related, ends_related, given_related, if_related, release_related}
 
 module _ (j d : ℕ) where
   text_related : (place : Option Place) (block : Block) (offset : ℤ) → Rel j d (text_of place block offset) (text_of place block offset)

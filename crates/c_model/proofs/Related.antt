@@ -1,6 +1,6 @@
 -- Parts of runs with a number of turns and with more: the second goes as the first, unless that wants a turn
 -- and has none left.
-use Rattle.std.proofs.Common.{◌≡◌, ◌⊎◌, ℕ, zero, suc, ◌+◌, ◌≤◌, ℤ, Bool, true, false, List, [], ◌∷◌, Option, Some, None, Result, Ok, Err, if◌then◌else◌, refl, sym, ap, ◌∙◌, subst, inl, inr, arith}
+use Rattle.std.proofs.Common.{◌≡◌, ◌⊎◌, ℕ, zero, suc, ◌+◌, ◌≤◌, ℤ, Bool, true, false, Option, Result, Ok, Err, if◌then◌else◌, refl, sym, ap, ◌∙◌, subst, inl, inr, arith}
 use Rattle.cake_base.specs.declared.places.Place.{Place}
 use Rattle.c_model.specs.declared.outcomes.Cause.{Cause}
 use Rattle.c_model.specs.Memory.{Memory, Value, Missing, Single, Structure, Scalar, Block}
@@ -107,7 +107,7 @@ release_related j d place scalar = record { at = λ s le. remember_related j pla
 
 -- turns and loops
 
-plus_none : (j : ℕ) (s : State) → j ≡ 0 → plus j s ≡ s
+pub plus_none : (j : ℕ) (s : State) → j ≡ 0 → plus j s ≡ s
 plus_none j s none = let e : s.turns + j ≡ s.turns = omega (arith, none) in ap (λ t. record s { turns = t }) e
 
 turn_out : {A : Type 0} (n : ℕ) (s : State) (next : State → Step A) → n ≡ 0 → turn_of n s next ≡ Ends Out s
@@ -138,7 +138,7 @@ turn_related j d m n related = record { at = λ s le. turn_by j d m n related s.
 
 -- where no turn is left, what wants one is late
 pub late_related : {A : Type 0} (j : ℕ) (n : Act A) → ((s : State) → s.turns ≡ 0 → n s ≡ Ends Out s) → Rel j 0 (ends Out) n
-late_related j n late = record { at = λ s le. inr (record { state = s; is_out = refl; same = λ none. (let e : (plus j s).turns ≡ 0 = omega (arith, le, none) in late (plus j s) e ∙ ap (Ends Out) (plus_none j s none)); }) }
+late_related j n late = record { at = λ s le. inr (record { state = s; is_out = refl; same = λ none. (let e : (plus j s).turns ≡ 0 = omega (arith, le, none) in late (plus j s) e ∙ ap (Ends Out) (plus_none j s none)) }) }
 
 pub turn_is_late : {A : Type 0} (m : Act A) (s : State) → s.turns ≡ 0 → (take_turn ▷ (λ u. m)) s ≡ Ends Out s
 turn_is_late m s none = ap (λ x. follow x (λ u. m)) (turn_out s.turns s begun none)

@@ -1,5 +1,5 @@
 -- Parts of a unit's run with calls that are related: they differ in nothing else.
-use Rattle.std.proofs.Common.{◌≡◌, ℕ, zero, suc, ◌+◌, ◌≤◌, ℤ, pos, Bool, true, false, List, [], ◌∷◌, Option, Some, None, if◌then◌else◌, refl, inl, arith}
+use Rattle.std.proofs.Common.{ℕ, pos, Bool, true, false, List, [], ◌∷◌, Option}
 use Rattle.cake_base.specs.declared.places.Place.{Place}
 use Rattle.c_model.specs.declared.operators.LogicOp.{LogicOp}
 use Rattle.c_model.specs.declared.operators.LogicOp.TheVariants.{And, Or}
@@ -8,18 +8,17 @@ use Rattle.c_model.specs.declared.marks.Mark.{Mark}
 use Rattle.c_model.specs.Types.{CType, form_of_type}
 use Rattle.c_model.specs.Memory.{Block, Scalar, Number, Null, Address, Code, Value, Missing, Single, Structure}
 use Rattle.c_model.specs.Applied.{is_true, applied, applied_unary}
-use Rattle.c_model.specs.Run.{State, Step, Act, ◌▷◌, just, ends, Flow, Falls, Breaks, Continues, Gives, Undefined, loop, take_turn, answer_of}
-use Rattle.c_model.specs.CoreTypes.{is_void, is_pointer, type_of, types_of, object_type, shape_of, basic_of, step_size, int_type}
-use Rattle.c_model.specs.SourceFrame.{Callee, Frame, Location, block_of, enter_scope, leave_scope}
+use Rattle.c_model.specs.Run.{Act}
+use Rattle.c_model.specs.CoreTypes.{is_void, type_of, types_of, object_type, shape_of, basic_of, step_size, int_type}
+use Rattle.c_model.specs.SourceFrame.{Callee, Frame, Location, block_of}
 use Rattle.std.specs.Option.{unwrap_or}
 use Rattle.c_model.specs.Layout.{member_offset}
 use Rattle.c_model.specs.Loads.{value_at}
 use Rattle.c_model.specs.SourceMarks.{at_mark, lvalue_mark, expr_mark, tested_at}
 use Rattle.c_model.specs.SourceOperations.{to_type, step_op, pointed, load_object, store_object, operated_on, logic, single, chosen, member_value, stepped}
 use Rattle.c_model.specs.SourceValues.{operand, needed, converted_value, followed, indexed, evaluate, locate, values_of, initialise}
-use Rattle.c_model.specs.SourceStatements.{on_condition, on_maybe, after_maybe, returned, in_row, is_case, or_else, nothing_or, switched, in_scope, perform, perform_maybe, perform_all, perform_cases, at_case, at_default}
 use Rattle.c_model.specs.Core as unit
-use Rattle.c_model.proofs.Related.{Rel, Over, plus, narrow, then_related, just_related, ends_related, given_related, if_related, choose_related, used_related, scalar_related, load_related, store_related, then_do_related, loop_related}
+use Rattle.c_model.proofs.Related.{Rel, then_related, just_related, ends_related, given_related, if_related, choose_related, used_related, scalar_related, load_related, store_related}
 
 -- the frame of a call, with other calls
 abbrev pub with_callee : Frame → Callee → Frame
@@ -36,10 +35,10 @@ module _ (j d : ℕ) where
   pointed_related place (Number value) = ends_related j d _
   pointed_related place (Code function) = ends_related j d _
 
-  operand_related : (e : unit.Expr) (m n : Act Value) → Rel j d m n → Rel j d (operand e m) (operand e n)
+  pub operand_related : (e : unit.Expr) (m n : Act Value) → Rel j d m n → Rel j d (operand e m) (operand e n)
   operand_related e m n related = then_related j d _ _ _ _ related (λ v. scalar_related j d (at_mark (expr_mark e)) v)
 
-  needed_related : (e : unit.Expr) (m n : Act Value) → Rel j d m n → Rel j d (needed e m) (needed e n)
+  pub needed_related : (e : unit.Expr) (m n : Act Value) → Rel j d m n → Rel j d (needed e m) (needed e n)
   needed_related e m n related = then_related j d _ _ _ _ related (λ v. used_related j d (at_mark (expr_mark e)) v)
 
   converted_related : (type : CType) (e : unit.Expr) (m n : Act Value) → Rel j d m n → Rel j d (converted_value type e m) (converted_value type e n)
@@ -125,7 +124,7 @@ module _ (j d : ℕ) where
           then_related j d _ _ _ _ (needed_related structure _ _ (evaluate_related structure)) (λ v. member_related mark (type_of structure) type rank v)
       evaluate_related (unit.Comma a b mark) = then_related j d _ _ _ _ (evaluate_related a) (λ v. evaluate_related b)
 
-      locate_related : (object : unit.Lvalue) → Rel j d (locate f object) (locate g object)
+      pub locate_related : (object : unit.Lvalue) → Rel j d (locate f object) (locate g object)
       locate_related (unit.Object id type mark) = just_related j d _
       locate_related (unit.Deref pointer mark) = followed_related pointer mark _ _ (evaluate_related pointer)
       locate_related (unit.Index is_second a b mark) =
@@ -137,13 +136,13 @@ module _ (j d : ℕ) where
           then_related j d _ _ _ _ (followed_related pointer mark _ _ (evaluate_related pointer)) (λ l. just_related j d _)
       locate_related (unit.Literal id type values mark) = then_related j d _ _ _ _ (initialise_related (block_of f.core f.call id) values) (λ u. just_related j d _)
 
-      values_related : (es : unit.Exprs) → Rel j d (values_of f es) (values_of g es)
+      pub values_related : (es : unit.Exprs) → Rel j d (values_of f es) (values_of g es)
       values_related unit.no_exprs = just_related j d []
       values_related (unit.more_exprs e es) =
           then_related j d _ _ _ _ (needed_related e _ _ (evaluate_related e))
           (λ v. then_related j d _ _ _ _ (values_related es) (λ vs. just_related j d (v ∷ vs)))
 
-      initialise_related : (block : Block) (values : unit.Initials) → Rel j d (initialise f block values) (initialise g block values)
+      pub initialise_related : (block : Block) (values : unit.Initials) → Rel j d (initialise f block values) (initialise g block values)
       initialise_related block unit.no_initials = just_related j d tt
       initialise_related block (unit.more_initials path offset type e others) =
           then_related j d _ _ _ _ (needed_related e _ _ (evaluate_related e))

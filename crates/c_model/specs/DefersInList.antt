@@ -1,7 +1,7 @@
 -- Defers as a list: what a block has deferred so far, the newest first, which runs when control leaves the
 -- block, however it does.
 use Rattle.std.specs.Prelude.{ℕ, List, [], ◌∷◌}
-use Rattle.c_model.specs.Run.{Act, ◌▷◌, just, Flow, Falls, Breaks, Continues, Gives}
+use Rattle.c_model.specs.Run.{Act, ◌▷◌, just, Flow, Falls}
 use Rattle.c_model.specs.SourceFrame.{Frame}
 use Rattle.c_model.specs.SourceStatements.{perform}
 use Rattle.c_model.specs.Core as unit
