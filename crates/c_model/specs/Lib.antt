@@ -60,6 +60,8 @@ pub mod TargetRun
 pub mod Flat89
 pub mod WrittenType
 pub mod Translation
+pub mod GivenBlocks
+pub mod Ownership
 pub mod ExampleParts
 pub mod Examples
 pub mod ExampleList
