@@ -3,10 +3,10 @@
 use Rattle.std.specs.Prelude.{◌≡◌, ◌⊎◌, ℕ, ℤ, Bool, List, [], ◌∷◌, ◌++◌, Option, Some, None, IsTrue}
 use Rattle.std.specs.Option.{option_map}
 use Rattle.c_model.specs.Operations.{fits}
-use Rattle.c_model.specs.Types.{CType, Form, Void, Integer, Enum, Pointer, Array, Struct, Function, Types, no_types, more_types, form_of_type}
-use Rattle.c_model.specs.Memory.{Block, Given, Scalar, Number, Null, Address, Code, Content, Holds, Zeroes, Cell, Value, Missing, Single, Structure, Contents, Memory, contents_of}
+use Rattle.c_model.specs.Types.{CType, Form, Integer, Enum, Pointer, Struct, Function, Types, no_types, more_types, form_of_type}
+use Rattle.c_model.specs.Memory.{Given, Scalar, Number, Null, Address, Content, Holds, Zeroes, Cell, Value, Missing, Single, Structure, Contents, Memory, contents_of}
 use Rattle.c_model.specs.Loads.{stored_at, is_zero_at}
-use Rattle.c_model.specs.Run.{Run, Event, Move, Ending, Returned, State, Step, Goes, Ends, start_with, run_of}
+use Rattle.c_model.specs.Run.{Step, Goes, Ends, start_with, run_of}
 use Rattle.c_model.specs.Core as source
 use Rattle.c_model.specs.SourceStart as source_start
 use Rattle.c_model.specs.SourceRun as source_run

@@ -65,6 +65,7 @@ pub mod Ownership
 pub mod ExampleParts
 pub mod Examples
 pub mod ExampleList
+pub mod ExampleTexts
 pub mod FirstTokens
 pub mod FirstUnit
 pub mod FirstRow

@@ -4,6 +4,9 @@ ghost use Rattle.std.specs.Prelude.{◌≡◌, true, pos, [], ◌∷◌, codes};
 ghost use Rattle.c_model.specs.SourceRun.{run23};
 ghost use Rattle.c_model.specs.TypedCore.{is_typed_core};
 ghost use Rattle.c_model.specs.Examples.{loop_with_defer, written_by_loop, deferred_assignment, hidden_name, load_before_call, function_literal, no_value, without_value, returned};
+ghost use Rattle.c_model.specs.Typing89.{is_typed};
+ghost use Rattle.c_model.specs.TargetRun.{run89};
+ghost use Rattle.c_model.specs.ExampleTexts.{writes_bytes, prints_node, printed};
 ghost use Rattle.c_model.specs.ExampleList.{list_of_nodes, with_memory, without_memory};
 
 /// A deferred call runs at the end of each round, also where `continue` ends it.
@@ -52,4 +55,16 @@ pub fn units_are_typed()
     ensures literal { is_typed_core function_literal ≡ true }
     ensures uninitialised { is_typed_core no_value ≡ true }
     ensures list { is_typed_core list_of_nodes ≡ true }
+{}
+
+/// A text that writes the bytes of the first unit, and is typed.
+pub fn text_writes_bytes()
+    ensures typed { is_typed writes_bytes ≡ true }
+    ensures run { run89 100 writes_bytes (codes "main") [] [] ≡ returned written_by_loop 0 }
+{}
+
+/// A text that takes a node from the heap, prints it and frees it, and is typed.
+pub fn text_prints_node()
+    ensures typed { is_typed prints_node ≡ true }
+    ensures run { run89 100 prints_node (codes "main") [] (pos 1 ∷ pos 2 ∷ []) ≡ printed }
 {}
