@@ -48,6 +48,7 @@ pub mod TargetTypes
 pub mod Constants89
 pub mod TypedParts89
 pub mod TypedStat89
+pub mod StaticValues89
 pub mod Typing89
 pub mod ReadingParts89
 pub mod Reading89

@@ -1,8 +1,10 @@
 -- When the expressions and statements of a C89 program are typed (ISO/IEC 9899:1990, 6.3, 6.6), with the types
 -- of the names in scope.
-use Rattle.std.specs.Prelude.{ℕ, Bool, true, false, ◌&&◌, ◌||◌, not, List, [], ◌∷◌, is_some}
-use Rattle.std.specs.List.{list_all}
+use Rattle.std.specs.Prelude.{ℕ, Bool, true, false, ◌&&◌, ◌||◌, not, List, [], ◌∷◌, is_some, ℤ, ◌++◌, Option, Some, None}
+use Rattle.std.specs.Ordering.{int_eq}
+use Rattle.std.specs.List.{list_any, list_all}
 use Rattle.c_model.specs.declared.numbers.Basic.{Basic}
+use Rattle.c_model.specs.Conversions.{promoted}
 use Rattle.c_model.specs.Types89.{Type89, Function as FunctionType, Types89, no_types, more_types}
 use Rattle.c_model.specs.TargetLayout.{member_of}
 use Rattle.c_model.specs.TargetTypes.{Names, find_name, type_of, value_type, pointee, integer_type, basic_or_int}
@@ -94,6 +96,28 @@ abbrev pub label_fits : Names → Basic → text.Label → Bool
 label_fits names basic (text.Case e) = has_type names e && is_some (constant_value names basic e)
 label_fits names basic text.Default = true
 
+-- the value of a label, in a switch's type
+abbrev pub label_value : Names → Basic → text.Label → Option ℤ
+label_value names basic (text.Case e) = constant_value names basic e
+label_value names basic text.Default = None
+
+abbrev pub same_value : Option ℤ → Option ℤ → Bool
+same_value (Some v) (Some w) = int_eq v w
+same_value None None = true
+same_value _ _ = false
+
+-- two labels are for one value, or both are `default`
+abbrev pub same_label : Names → Basic → text.Label → text.Label → Bool
+same_label names basic label other = same_value (label_value names basic label) (label_value names basic other)
+
+abbrev pub all_labels : text.Items → List text.Label
+all_labels text.no_items = []
+all_labels (text.an_item labels stat items) = labels ++ all_labels items
+
+abbrev pub are_different : Names → Basic → List text.Label → Bool
+are_different names basic [] = true
+are_different names basic (label ∷ labels) = not (list_any (same_label names basic label) labels) && are_different names basic labels
+
 abbrev pub returns_fit : Type89 → Names → text.Expr → Bool
 returns_fit result names e = not (is_void result) && assignment_fits names result e
 
@@ -109,7 +133,9 @@ abbrev mutual
       && objects_fit a.names other_ds && all_stand (in_block other_ds a) other_body
   stands a (text.Forever ds body) = objects_fit a.names ds && all_stand (in_loop (in_block ds a)) body
   stands a (text.Switch e items) =
-      has_type a.names e && is_integer (value_type a.names e) && items_stand (in_switch a) (basic_or_int (integer_type (value_type a.names e))) items
+      has_type a.names e && is_integer (value_type a.names e)
+      && are_different a.names (promoted (basic_or_int (integer_type (value_type a.names e)))) (all_labels items)
+      && items_stand (in_switch a) (promoted (basic_or_int (integer_type (value_type a.names e)))) items
   stands a text.Break = a.can_break
   stands a text.Continue = a.can_continue
   stands a text.ReturnNothing = true

@@ -1,6 +1,6 @@
 -- When a C89 program is typed (ISO/IEC 9899:1990, 6.1.2, 6.5, 6.7): each name is declared before its use, the
 -- objects of a function have names of their own, and what is defined is complete and defined once.
-use Rattle.std.specs.Prelude.{◌≡◌, ℕ, ◌+◌, Bool, true, false, ◌&&◌, ◌||◌, not, List, [], ◌∷◌, Option, Some, None, if◌then◌else◌}
+use Rattle.std.specs.Prelude.{◌≡◌, ℕ, ◌+◌, Bool, true, false, ◌&&◌, ◌||◌, not, List, [], ◌∷◌, Option, Some, None, if◌then◌else◌, nat_le, nat_lt, length}
 use Rattle.std.specs.List.{list_all}
 use Rattle.std.specs.Str.{bytes_eq}
 use Rattle.c_model.specs.Types89.{Base, Void, Struct, Type89, Based, Pointer, Array, Function as FunctionType, Types89, no_types, more_types}
@@ -8,6 +8,8 @@ use Rattle.c_model.specs.Types89 as type
 use Rattle.c_model.specs.Compatible89.{compatible}
 use Rattle.c_model.specs.TargetTypes.{Names, find_name}
 use Rattle.c_model.specs.TargetFrame.{locals, is_declared, file_names, outer_names, defines}
+use Rattle.c_model.specs.TargetLayout.{members_of, members_or_none}
+use Rattle.c_model.specs.StaticValues89.{is_constant}
 use Rattle.c_model.specs.TargetStart.{part_type}
 use Rattle.c_model.specs.TargetValues.{is_void, is_function}
 use Rattle.c_model.specs.TypedParts89.{is_array, is_complete}
@@ -73,23 +75,29 @@ structures_fit before (text.Members name first others ∷ structures) =
     not (has_members before name) && members_fit (text.Tag name ∷ before) (first ∷ others)
     && structures_fit (text.Members name first others ∷ before) structures
 
--- a string is for an array of char that has room for its bytes
-abbrev pub is_char_array : Type89 → Bool
-is_char_array (Array count (Based is_const type.Char)) = true
-is_char_array _ = false
+-- a string is for an array of char that has room for its bytes; the zero behind them needs none
+abbrev pub is_room_for : Type89 → List ℕ → Bool
+is_room_for (Array (Some count) (Based is_const type.Char)) bytes = nat_le (length bytes) count
+is_room_for _ bytes = false
+
+-- an element or member of a rank is there
+abbrev pub has_part : List text.Structure → Type89 → (rank : ℕ) → Bool
+has_part structures (Array (Some count) of) rank = nat_lt rank count
+has_part structures type rank = nat_lt rank (length (members_or_none (members_of structures type)))
 
 abbrev mutual
-  -- an initial value: braces for each array and structure, a string for an array of char
+  -- an initial value, which is constant: braces for each array and structure, or a string for an array of
+  -- char
   pub init_fits : Names → Type89 → text.Init → Bool
-  init_fits names type (text.Value e) = not (is_array type) && assignment_fits names type e
-  init_fits names type (text.Text bytes) = is_char_array type
+  init_fits names type (text.Value e) = not (is_array type) && assignment_fits names type e && is_constant names e
+  init_fits names type (text.Text bytes) = is_room_for type bytes
   init_fits names type (text.Braces first others) =
-      init_fits names (part_type names.structures type 0) first && inits_fit names type 1 others
+      has_part names.structures type 0 && init_fits names (part_type names.structures type 0) first && inits_fit names type 1 others
 
   pub inits_fit : Names → Type89 → (rank : ℕ) → text.Inits → Bool
   inits_fit names type rank text.no_inits = true
   inits_fit names type rank (text.more_inits first others) =
-      init_fits names (part_type names.structures type rank) first && inits_fit names type (rank + 1) others
+      has_part names.structures type rank && init_fits names (part_type names.structures type rank) first && inits_fit names type (rank + 1) others
 
 abbrev pub value_fits : Names → Type89 → Option text.Init → Bool
 value_fits names type None = true
