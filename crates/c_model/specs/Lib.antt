@@ -67,6 +67,7 @@ pub mod ExampleParts
 pub mod Examples
 pub mod ExampleList
 pub mod ExampleTexts
+pub mod ExampleMemory
 pub mod FirstTokens
 pub mod FirstUnit
 pub mod FirstRow

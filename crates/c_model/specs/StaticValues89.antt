@@ -1,6 +1,6 @@
 -- The values that objects of a C89 program may begin with (ISO/IEC 9899:1990, 6.4): integer constant
 -- expressions, null pointers, and addresses at constant offsets through pointer casts.
-use Rattle.std.specs.Prelude.{Bool, true, false, ◌&&◌, ◌||◌, is_some, if◌then◌else◌}
+use Rattle.std.specs.Prelude.{Bool, true, false, ◌&&◌, ◌||◌, is_some}
 use Rattle.c_model.specs.declared.numbers.BinOp.TheVariants.{Add, Sub}
 use Rattle.c_model.specs.TargetTypes.{Names, type_of, is_pointer}
 use Rattle.c_model.specs.TargetValues.{is_function}
@@ -19,7 +19,7 @@ abbrev mutual
   -- the address of a function or of an object of static storage
   pub is_address : Names → text.Expr → Bool
   is_address names (text.Name name) = decays names (text.Name name)
-  is_address names (text.Index a b) = 
+  is_address names (text.Index a b) =
       decays names (text.Index a b)
       && ((is_address names a && is_integer_constant names b) || (is_integer_constant names a && is_address names b))
   is_address names (text.Member structure name) = decays names (text.Member structure name) && is_static_place names structure

@@ -8,6 +8,7 @@ pub mod examples;
 pub mod first_tokens;
 pub mod laws;
 pub mod marks;
+pub mod memory_examples;
 pub mod numbers;
 pub mod operators;
 pub mod outcomes;
