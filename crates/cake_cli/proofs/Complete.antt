@@ -28,24 +28,28 @@ additive_read : (op : BinOp) (left right : List Token) (t : Token) (a b : Expr) 
 additive_read op left right t a b additive sign first second outer =
     let l = first outer in
     let w : Waiting = record { op = op; left = closed l.1 l.0; place = t.place } in
-    let r = second (Some w) outer in
-    (r.0, waits (Some w) r.1,
+    let r = second (Some w) outer in (
+      r.0,
+      waits (Some w) r.1,
       go-append (Some (Operand nothing_open outer)) left (t ∷ right)
-      ∙ ap (λ o. go o (t ∷ right)) l.2
-      ∙ ap (λ o. go o right) (sign_step t op l.0 l.1 outer sign ∙ ap Some (additive l.0 l.1 outer))
-      ∙ r.2,
-      ap (λ x. Binary op x (joined r.1 r.0) t.place) l.3 ∙ ap (λ x. Binary op a x t.place) r.3)
+          ∙ ap (λ o. go o (t ∷ right)) l.2
+          ∙ ap (λ o. go o right) (sign_step t op l.0 l.1 outer sign ∙ ap Some (additive l.0 l.1 outer))
+          ∙ r.2,
+      ap (λ x. Binary op x (joined r.1 r.0) t.place) l.3 ∙ ap (λ x. Binary op a x t.place) r.3,
+    )
 
 product_read_more : (left right : List Token) (t : Token) (a b : Expr) → sign_of t.text ≡ Some Mul → ReadsProduct left a → ReadsPrimary right b → ReadsProduct (left ++ t ∷ right) (Binary Mul a b t.place)
 product_read_more left right t a b sign first second sum outer =
     let l = first sum outer in
-    let w : Waiting = record { op = Mul; left = joined l.1 l.0; place = t.place } in
-    (b, Some w,
+    let w : Waiting = record { op = Mul; left = joined l.1 l.0; place = t.place } in (
+      b,
+      Some w,
       go-append (Some (Operand (waits sum None) outer)) left (t ∷ right)
-      ∙ ap (λ o. go o (t ∷ right)) l.2
-      ∙ ap (λ o. go o right) (sign_step t Mul l.0 (waits sum l.1) outer sign)
-      ∙ second (waits sum (Some w)) outer,
-      ap (λ x. Binary Mul x b t.place) l.3)
+          ∙ ap (λ o. go o (t ∷ right)) l.2
+          ∙ ap (λ o. go o right) (sign_step t Mul l.0 (waits sum l.1) outer sign)
+          ∙ second (waits sum (Some w)) outer,
+      ap (λ x. Binary Mul x b t.place) l.3,
+    )
 
 parenthesised_read : (l r : Token) (inner : List Token) (e : Expr) → l.text ≡ codes "(" → r.text ≡ codes ")" → ReadsSum inner e → ReadsPrimary (l ∷ (inner ++ r ∷ [])) e
 parenthesised_read l r inner e begins ends read here outer =

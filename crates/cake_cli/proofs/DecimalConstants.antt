@@ -75,5 +75,5 @@ constant_complete [] number is = absurd (let h : false ≡ true = is.some in cc)
 constant_complete (b ∷ []) number is = number_complete 0 (b ∷ []) number is.digits is.value is.fits
 constant_complete (b ∷ c ∷ bs) number is =
     zero_step (b == 48) b c bs number refl
-      (λ e. let none : c ∷ bs ≡ [] = is.no_leading_zero (c ∷ bs) (ap (λ d. d ∷ c ∷ bs) e) in cc)
-      (number_complete 0 (b ∷ c ∷ bs) number is.digits is.value is.fits)
+    (λ e. let none : c ∷ bs ≡ [] = is.no_leading_zero (c ∷ bs) (ap (λ d. d ∷ c ∷ bs) e) in cc)
+    (number_complete 0 (b ∷ c ∷ bs) number is.digits is.value is.fits)

@@ -93,6 +93,7 @@ text_verdict false text test = by (reader.read_unit (tokens text) (end_place tex
   where
     within : (m n : ℕ) → nat_lt m n ≡ false → n ≤ m
     within m n h = grind (arith, nat_tests)
+
     by : (r : reader.Reading) → ReadsAs text r → (v : Verdict) × IsVerdictOn text v
     by (reader.Stops place) is = (NotBuilt place, is)
     by (reader.Reads value) is = (IsCore (returning value is.0), is.1)

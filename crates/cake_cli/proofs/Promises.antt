@@ -161,25 +161,34 @@ status_due plan due c result wanted never out e =
     sym (not_excused result plan c (subst (λ s. IsExcused s plan c → ⊥) (sym e) never) due (status_is plan due c result out)) ∙ e
 
 pub usage : (plan : Plan) (c : Call) (result : Status) → ComesOut plan c result → Exactly (result ≡ status.Usage) (AreBad plan) (IsExcused result plan c)
-usage plan c result (due, is, out) =
-    (λ e. usage_bad plan c due is (status_due plan due c result status.Usage (λ x. x) out e),
-     λ bad. by_status due plan c result status.Usage (bad_by plan c due bad is) (status_is plan due c result out))
+usage plan c result (due, is, out) = (
+  λ e. usage_bad plan c due is (status_due plan due c result status.Usage (λ x. x) out e),
+  λ bad. by_status due plan c result status.Usage (bad_by plan c due bad is) (status_is plan due c result out),
+)
 
 pub refused : (plan : Plan) (c : Call) (result : Status) → ComesOut plan c result → ForDue plan c (λ due. Exactly (result ≡ status.Refused) (IsRefused due) (IsExcused result plan c))
-refused plan c result (due, is, out) =
-    (due, is,
-     (λ e. refused_due due (status_due plan due c result status.Refused (λ x. x) out e),
-      λ r. by_status due plan c result status.Refused (due_refused due r) (status_is plan due c result out)))
+refused plan c result (due, is, out) = (
+  due,
+  is,
+  (
+    λ e. refused_due due (status_due plan due c result status.Refused (λ x. x) out e),
+    λ r. by_status due plan c result status.Refused (due_refused due r) (status_is plan due c result out),
+  ),
+)
 
 read_fault_by : (plan : Plan) (due : Answer) (c : Call) (result : Status) → (result ≡ status_of due) ⊎ IsExcused result plan c → result ≡ status.ReadFault → IsUnreadable due ⊎ (AreRead plan × ReadFailed c)
 read_fault_by plan due c result (inl e) r = inl (unreadable_due due (sym e ∙ r))
 read_fault_by plan due c result (inr x) r = inr (subst (λ s. IsExcused s plan c) r x)
 
 pub read_fault : (plan : Plan) (c : Call) (result : Status) → ComesOut plan c result → ForDue plan c (λ due. (result ≡ status.ReadFault → IsUnreadable due ⊎ (AreRead plan × ReadFailed c)) × (IsUnreadable due → (result ≡ status.ReadFault) ⊎ IsExcused result plan c))
-read_fault plan c result (due, is, out) =
-    (due, is,
-     (λ r. read_fault_by plan due c result (status_is plan due c result out) r,
-      λ u. by_status due plan c result status.ReadFault (due_unreadable due u) (status_is plan due c result out)))
+read_fault plan c result (due, is, out) = (
+  due,
+  is,
+  (
+    λ r. read_fault_by plan due c result (status_is plan due c result out) r,
+    λ u. by_status due plan c result status.ReadFault (due_unreadable due u) (status_is plan due c result out),
+  ),
+)
 
 no_write_fault : (due : Answer) → status.WriteFault ≡ status_of due → ⊥
 no_write_fault (Usage n) e = let h : status.WriteFault ≡ status.Usage = e in cc

@@ -101,7 +101,7 @@ sum_closed sum ts us e (minus left sign a l is) p =
 open_closed : (here : Open) (ts us : List Token) (e : Expr) → OpenFront here ts → IsPrimary us e → IsSum (ts ++ us) (closed here e)
 open_closed here ts us e o p =
     subst (λ vs. IsSum vs (closed here e)) (sym (ap (λ vs. vs ++ us) o.parts ∙ append_assoc o.first o.second us))
-      (sum_closed here.sum o.first (o.second ++ us) (joined here.product e) o.sum (product_closed here.product o.second us e o.product p))
+    (sum_closed here.sum o.first (o.second ++ us) (joined here.product e) o.sum (product_closed here.product o.second us e o.product p))
 
 -- each step keeps what a stage says
 
@@ -142,6 +142,7 @@ other_word count ts t no_six holds is =
   where
     not_equal : (m n : ℕ) → (m == n) ≡ false → m ≡ n → ⊥
     not_equal m n test e = grind (arith, nat_tests)
+
     below : (n : ℕ) → suc n ≤ 7 → (n ≡ 6 → ⊥) → n + 1 ≤ 6
     below n h ne = omega (arith, h, ne)
 
@@ -282,21 +283,24 @@ constant_keeps ts t number here outer holds is = record {
 }
 
 brace_keeps : (ts : List Token) (t : Token) (value : Expr) → Holds (Tail value) ts → t.text ≡ codes "}" → Holds (Whole value) (ts ++ t ∷ [])
-brace_keeps ts t value holds is = (holds.words.return_.place, record {
-  head = holds.words.head;
-  return_ = holds.words.return_;
-  sum = holds.sum;
-  semicolon = holds.semicolon;
-  brace = t;
-  value = value;
-  parts = ap (λ vs. vs ++ t ∷ []) (holds.parts ∙ ap (λ vs. vs ++ (holds.sum ++ holds.semicolon ∷ [])) holds.words.parts) ∙ simp append_assoc;
-  head_is = holds.words.head_is;
-  return_is = holds.words.return_is;
-  sum_is = holds.sum_is;
-  semicolon_is = holds.semicolon_is;
-  brace_is = is;
-  core_is = refl;
-})
+brace_keeps ts t value holds is = (
+  holds.words.return_.place,
+  record {
+    head = holds.words.head;
+    return_ = holds.words.return_;
+    sum = holds.sum;
+    semicolon = holds.semicolon;
+    brace = t;
+    value = value;
+    parts = ap (λ vs. vs ++ t ∷ []) (holds.parts ∙ ap (λ vs. vs ++ (holds.sum ++ holds.semicolon ∷ [])) holds.words.parts) ∙ simp append_assoc;
+    head_is = holds.words.head_is;
+    return_is = holds.words.return_is;
+    sum_is = holds.sum_is;
+    semicolon_is = holds.semicolon_is;
+    brace_is = is;
+    core_is = refl;
+  },
+)
 
 -- a step keeps what its stage says
 
@@ -397,8 +401,8 @@ front_finishes (suc n) count e =
     let word = word_there front_words count size in
     let next : Finishes (Front (count + 1)) = front_finishes n (count + 1) (omega arith) in
     finishes_by (Front count) (Front (count + 1)) (token word.0)
-      (word_step count (token word.0) word.0 refl word.1 ∙ ap (λ b. Some (if b then Operand nothing_open [] else Front (count + 1))) (no_six count (omega arith)))
-      next
+    (word_step count (token word.0) word.0 refl word.1 ∙ ap (λ b. Some (if b then Operand nothing_open [] else Front (count + 1))) (no_six count (omega arith)))
+    next
   where
     no_six : (k : ℕ) → k < 6 → (k == 6) ≡ false
     no_six k h = grind (arith, nat_tests)

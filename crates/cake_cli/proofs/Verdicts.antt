@@ -54,14 +54,15 @@ Says all end (Reads value) = (length all ≤ 100) × (place : Place) × IsUnit a
 
 stops_at_end : (all : List Token) (stage : Stage) (end : Place) → length all ≤ 100 → go (Some (Front 0)) all ≡ Some stage → ((value : _) → stage ≡ Whole value → ⊥) → Says all end (Stops end)
 stops_at_end all stage end size e unfinished =
-    let whole : take (length all) all ≡ all = ap (take (length all)) (sym (append-nil all)) ∙ take-front all [] in
-    (length all,
+    let whole : take (length all) all ≡ all = ap (take (length all)) (sym (append-nil all)) ∙ take-front all [] in (
+      length all,
       record {
         before = subst CanGoOn (sym whole) (read_goes_on all stage e);
         count = size;
         cause = too_few refl (λ core unit. unfinished unit.value (let both : Some stage ≡ Some (Whole unit.value) = sym e ∙ unit_read all core unit in cc));
       },
-      sym (place_from-all all end))
+      sym (place_from-all all end),
+    )
 
 says_at_end : (all : List Token) (stage : Stage) (end : Place) → length all ≤ 100 → go (Some (Front 0)) all ≡ Some stage → Says all end (at_end stage end)
 says_at_end all (Whole value) end size e = let unit = whole_is_unit all value e in (size, unit.0, unit.1)
@@ -74,22 +75,23 @@ inside_of : (done : List Token) (t : Token) (left : List Token) → length done 
 inside_of done t left = omega (arith, length-append done (t ∷ left))
 
 stops_before : (done : List Token) (t : Token) (left : List Token) (stage : Stage) (end : Place) → length done ≤ 100 → go (Some (Front 0)) done ≡ Some stage → StopsFor (done ++ t ∷ left) (length done) → Says (done ++ t ∷ left) end (Stops t.place)
-stops_before done t left stage end size e cause =
-    (length done,
-      record { before = subst CanGoOn (sym (take-front done (t ∷ left))) (read_goes_on done stage e); count = size; cause = cause },
-      sym (place_from-append done t left end))
+stops_before done t left stage end size e cause = (
+  length done,
+  record { before = subst CanGoOn (sym (take-front done (t ∷ left))) (read_goes_on done stage e); count = size; cause = cause },
+  sym (place_from-append done t left end),
+)
 
 -- no unit goes on with a token that the reader doesn't take
 no_unit : (done : List Token) (t : Token) (left : List Token) (stage : Stage) → go (Some (Front 0)) done ≡ Some stage → read_token stage t ≡ None → CanGoOn (take (1 + length done) (done ++ t ∷ left)) → ⊥
 no_unit done t left stage e none (rest, core, unit) =
     let read = unit_read _ core unit in
     let fails : go (Some (Front 0)) (take (1 + length done) (done ++ t ∷ left) ++ rest) ≡ None =
-        ap (λ ts. go (Some (Front 0)) (ts ++ rest)) (take-one_more done t left)
-        ∙ ap (go (Some (Front 0))) (append_assoc done (t ∷ []) rest)
-        ∙ go-append (Some (Front 0)) done (t ∷ rest)
-        ∙ ap (λ o. go o (t ∷ rest)) e
-        ∙ ap (λ o. go o rest) none
-        ∙ go-None rest in
+    ap (λ ts. go (Some (Front 0)) (ts ++ rest)) (take-one_more done t left)
+    ∙ ap (go (Some (Front 0))) (append_assoc done (t ∷ []) rest)
+    ∙ go-append (Some (Front 0)) done (t ∷ rest)
+    ∙ ap (λ o. go o (t ∷ rest)) e
+    ∙ ap (λ o. go o rest) none
+    ∙ go-None rest in
     let both : None ≡ Some (Whole unit.value) = sym fails ∙ read in cc
 
 abbrev Rest : List Token → Place → Type 0
@@ -108,11 +110,12 @@ says_step false (Some next) done t left stage end rest test step ordered size e 
     let one : length (done ++ t ∷ []) ≡ length done + 1 = omega (arith, length-append done (t ∷ [])) in
     let small : length done + 1 ≤ 100 = below (length done) size (λ h. differs t.place.order 100 test (ordered.0 ∙ h)) in
     subst (λ ts. Says ts end (read_from next left end)) (append_assoc done (t ∷ []) left)
-      (rest (done ++ t ∷ []) next (subst (λ n. Ordered n left) (sym one) ordered.1) (omega (arith, one, small))
-        (go-append (Some (Front 0)) done (t ∷ []) ∙ ap (λ o. go o (t ∷ [])) e ∙ step))
+    (rest (done ++ t ∷ []) next (subst (λ n. Ordered n left) (sym one) ordered.1) (omega (arith, one, small))
+    (go-append (Some (Front 0)) done (t ∷ []) ∙ ap (λ o. go o (t ∷ [])) e ∙ step))
   where
     differs : (m n : ℕ) → (m == n) ≡ false → m ≡ n → ⊥
     differs m n test e = grind (arith, nat_tests)
+
     below : (n : ℕ) → n ≤ 100 → (n ≡ 100 → ⊥) → n + 1 ≤ 100
     below n h ne = omega (arith, h, ne)
 
@@ -127,4 +130,4 @@ verdict_of_reading text (Reads value) size said = (said.1, (size, said.0, said.2
 pub reading_is_verdict : (text : List ℕ) → length text ≤ max_file → ReadsAs text (read_unit (tokens text) (end_place text))
 reading_is_verdict text size =
     verdict_of_reading text (read_unit (tokens text) (end_place text)) size
-      (says (tokens text) (end_place text) [] (Front 0) (tokens_ordered 0 first_position 0 text) (omega arith) refl)
+    (says (tokens text) (end_place text) [] (Front 0) (tokens_ordered 0 first_position 0 text) (omega arith) refl)

@@ -10,9 +10,10 @@ mod report;
 mod scanner;
 mod spelling;
 mod status;
+#[cfg(test)]
+mod tests;
 mod tokens;
 mod words;
-
 
 pub use command::cake;
 pub use status::Status;

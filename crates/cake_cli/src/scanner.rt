@@ -5,8 +5,8 @@ ghost use Rattle.c_model.specs.FirstTokens.{tokens, end_place, is_blank, is_digi
 ghost use Rattle.cake_cli.specs.Blanks.{blank_rest};
 ghost use Rattle.cake_cli.specs.Scanned.{tokens_left, end_of, IsNext};
 
-use c_model::first_tokens::Before;
 use crate::tokens::{Scanner, Token};
+use c_model::first_tokens::Before;
 use c_model::positions::Position;
 use cake_base::Place;
 

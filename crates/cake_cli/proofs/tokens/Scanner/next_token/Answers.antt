@@ -17,4 +17,4 @@ returns-in-Some-clause-token c =
 pub returns-in-Some-clause-end : goal.returns-in-Some-clause-end
 returns-in-Some-clause-end c =
     one_end c.args.self.now.at c.args.self.now.order _ _ _ _ _ _ _ _ _ _ c.split_at.ensures.front c.split_at.ensures.back c.behind_all-at.ensures.place c.split_at-in-Some.ensures.front c.split_at-in-Some.ensures.back c.behind_all.ensures.place
-      (one_token c.args.self.now.at c.args.self.now.order _ _ _ _ _ _ _ _ _ _ _ c.blank_rest.ensures.rest c.split_at.ensures.front c.split_at.ensures.back c.behind_all-at.ensures.place c.in-Some.ensures.cases.0 c.token_rest.ensures.rest c.split_at-in-Some.ensures.front c.split_at-in-Some.ensures.back c.behind_all.ensures.place)
+    (one_token c.args.self.now.at c.args.self.now.order _ _ _ _ _ _ _ _ _ _ _ c.blank_rest.ensures.rest c.split_at.ensures.front c.split_at.ensures.back c.behind_all-at.ensures.place c.in-Some.ensures.cases.0 c.token_rest.ensures.rest c.split_at-in-Some.ensures.front c.split_at-in-Some.ensures.back c.behind_all.ensures.place)
