@@ -4,6 +4,7 @@ use std::alloc::Global;
 use std::test::Fail;
 
 /// What the command answers, and what it put on out and on err.
+#[derive(Drop)]
 struct Answered {
     status: Status,
     out: MemSink,
