@@ -1,2 +1,5 @@
 pub mod Operations
 pub mod PpTokens
+pub mod FlowGraph
+pub mod PossibleState
+pub mod Findings
