@@ -1,0 +1,14 @@
+//! The engine of the ownership check: the states that tracked places may have at each point of a
+//! graph, and the rules that are broken there.
+#![tactic(auto)]
+
+mod counter;
+mod graph;
+mod list;
+mod rows;
+mod table;
+
+pub use c_model::flow::{Action, State, States};
+pub use counter::Steps;
+pub use graph::FlowGraph;
+pub use list::Findings;
