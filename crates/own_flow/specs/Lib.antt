@@ -1,2 +1,6 @@
 pub mod Words
 pub mod Chains
+pub mod Nodes
+pub mod Effects
+pub mod Marks
+pub mod Exploration

@@ -5,7 +5,9 @@
 mod counter;
 mod graph;
 mod list;
+mod nodes;
 mod rows;
+mod search;
 mod table;
 
 pub use c_model::flow::{Action, State, States};
