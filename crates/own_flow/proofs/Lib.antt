@@ -3,3 +3,7 @@ pub mod ChainLaws
 pub mod NodeLaws
 pub mod Growth
 pub mod Grew
+pub mod EffectLaws
+pub mod Crossing
+pub mod Following
+pub mod Least

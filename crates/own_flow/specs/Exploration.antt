@@ -2,6 +2,8 @@
 use Rattle.std.specs.Prelude.{◌≡◌, ℕ, zero, suc, ◌+◌, ◌*◌, ◌^◌, ◌<◌, Bool, true, false, cond, ◌==◌, List, [], ◌∷◌, ◌++◌, length, map, All, Option, Some, slice_get}
 use Rattle.c_model.specs.declared.flow.State.{State}
 use Rattle.c_model.specs.declared.flow.States.{States}
+use Rattle.c_model.specs.declared.flow.Action.{Action}
+use Rattle.c_model.specs.declared.flow.Action.TheVariants as act
 use Rattle.c_model.specs.declared.flow.Edge.{Edge}
 use Rattle.c_model.specs.declared.flow.Fact.{Fact}
 use Rattle.c_model.specs.declared.flow.Fact.TheVariants.{Reached, Has}
@@ -46,9 +48,18 @@ Just places node x = x ≡ node_number places node
 abbrev pub Maybe : ℕ → ℕ → Option Fact → ℕ → Type 0
 Maybe places point o x = (f : Fact) × (o ≡ Some f) × (x ≡ node_number places (record { point = point; fact = f }))
 
+-- the place with the state, if the state is in the set
+abbrev pub OneState : ℕ → ℕ → ℕ → States → State → ℕ → Type 0
+OneState places point p states s x = (is_in s states ≡ true) × (x ≡ node_number places (record { point = point; fact = Has p s }))
+
 -- the place with each state of the set
 abbrev pub EachState : ℕ → ℕ → ℕ → States → ℕ → Type 0
 EachState places point p states x = (s : State) × (is_in s states ≡ true) × (x ≡ node_number places (record { point = point; fact = Has p s }))
+
+-- what the action sets, if it sets a place
+abbrev pub SetBy : ℕ → ℕ → Action → ℕ → Type 0
+SetBy places point (act.Set p states) x = EachState places point p states x
+SetBy places point _ x = ⊥
 
 -- what an edge makes of a fact
 abbrev pub Made : ℕ → Edge → Fact → ℕ → Type 0

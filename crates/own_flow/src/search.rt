@@ -1,10 +1,10 @@
 //! The worklist: what is possible at each point, each fact followed once.
 ghost use Rattle.std.specs.Prelude.{◌≡◌, ◌+◌, ◌*◌, ◌^◌, ◌<◌, ◌≤◌, [], ◌∷◌, ◌++◌, length, false, true, replicate, All, IfOk, OnOk, IfSome, IfNone, Some, slice_get};
 ghost use Rattle.c_model.specs.FlowGraph.{Fits, is_in, InPlaces};
-ghost use Rattle.c_model.specs.declared.flow.Fact.TheVariants.{Has};
+ghost use Rattle.c_model.specs.declared.flow.Fact.TheVariants.{Reached, Has};
 ghost use Rattle.own_flow.specs.Chains.{AreChains};
 ghost use Rattle.own_flow.specs.Nodes.{NodeFits, FactFits, row_width, node_number};
-ghost use Rattle.own_flow.specs.Exploration.{Grew, Just, Maybe, EachState, Made, MadeOf, degree, step_cost};
+ghost use Rattle.own_flow.specs.Exploration.{Grew, Just, Maybe, OneState, EachState, SetBy, Made, MadeOf, degree, step_cost};
 
 use crate::counter::Steps;
 use crate::nodes::{Node, copied, kept};
@@ -84,5 +84,135 @@ impl Search {
         ensures empty { IfNone result (self.new.waiting ≡ []) }
     {
         self.waiting.pop()
+    }
+
+    /// Marks the place with the state, if the state is in the set.
+    fn mark_state(
+        &mut self,
+        point: usize,
+        place: u32,
+        states: States,
+        state: State,
+    ) -> Result<(), NoMemory>
+        requires point { point < self.old.points }
+        requires place { place < self.old.places }
+        ensures { OnOk result (Grew (OneState self.old.places point place states state) self.old self.new) }
+    {
+        if states.has(state) {
+            self.mark(Node {
+                point,
+                fact: Fact::Has(place, state),
+            })?;
+        }
+        Ok(())
+    }
+
+    /// Marks the place with each state of the set.
+    fn mark_states(&mut self, point: usize, place: u32, states: States) -> Result<(), NoMemory>
+        requires point { point < self.old.points }
+        requires place { place < self.old.places }
+        ensures { OnOk result (Grew (EachState self.old.places point place states) self.old self.new) }
+    {
+        self.mark_state(point, place, states, State::Uninitialised)?;
+        self.mark_state(point, place, states, State::Null)?;
+        self.mark_state(point, place, states, State::Live)?;
+        self.mark_state(point, place, states, State::Moved)?;
+        self.mark_state(point, place, states, State::Deleted)
+    }
+
+    /// Marks the fact at the point, if there is one.
+    fn mark_maybe(&mut self, point: usize, fact: Option<Fact>) -> Result<(), NoMemory>
+        requires point { point < self.old.points }
+        requires fact { IfSome fact (λ f. FactFits self.old.places f) }
+        ensures { OnOk result (Grew (Maybe self.old.places point fact) self.old self.new) }
+    {
+        match fact {
+            Some(fact) => self.mark(Node { point, fact }),
+            None => Ok(()),
+        }
+    }
+
+    /// Marks what an action that sets a place makes where its edge begins at a reached point.
+    fn mark_set(&mut self, point: usize, action: Action) -> Result<(), NoMemory>
+        requires point { point < self.old.points }
+        requires action { InPlaces self.old.places action }
+        ensures { OnOk result (Grew (SetBy self.old.places point action) self.old self.new) }
+    {
+        match action {
+            Action::Set(place, states) => self.mark_states(point, place, states),
+            Action::Pass => Ok(()),
+            Action::Copy(_, _) => Ok(()),
+            Action::Give(_, _) => Ok(()),
+            Action::Test(_, _) => Ok(()),
+            Action::Need(_, _, _, _) => Ok(()),
+        }
+    }
+
+    /// Marks what the edge makes of a reached point.
+    fn cross_reached(&mut self, edge: Edge) -> Result<(), NoMemory>
+        requires { Fits self.old.places self.old.points edge }
+        ensures { OnOk result (Grew (Made self.old.places edge Reached) self.old self.new) }
+    {
+        self.mark(Node {
+            point: edge.to,
+            fact: Fact::Reached,
+        })?;
+        self.mark_set(edge.to, edge.action)
+    }
+
+    /// Marks what the edge makes of a state of a place.
+    fn cross_state(&mut self, edge: Edge, place: u32, state: State) -> Result<(), NoMemory>
+        requires edge { Fits self.old.places self.old.points edge }
+        requires place { place < self.old.places }
+        ensures { OnOk result (Grew (Made self.old.places edge (Has place state)) self.old self.new) }
+    {
+        self.mark_maybe(edge.to, kept(edge.action, place, state))?;
+        self.mark_maybe(edge.to, copied(edge.action, place, state))
+    }
+
+    /// Marks what the edge makes of the fact.
+    fn cross(&mut self, edge: Edge, fact: Fact) -> Result<(), NoMemory>
+        requires edge { Fits self.old.places self.old.points edge }
+        requires fact { FactFits self.old.places fact }
+        ensures { OnOk result (Grew (Made self.old.places edge fact) self.old self.new) }
+    {
+        match fact {
+            Fact::Reached => self.cross_reached(edge),
+            Fact::Has(place, state) => self.cross_state(edge, place, state),
+        }
+    }
+
+    /// Marks what follows from the node, one step an edge that begins at its point where the node
+    /// is a state.
+    fn follow<L: Ledger>(
+        &mut self,
+        edges: &[Edge],
+        chains: &Chains,
+        node: Node,
+        steps: &mut Steps<L>,
+    ) -> Result<(), NoMemory>
+        requires chains { AreChains edges.now self.old.points chains.now }
+        requires edges { All (Fits self.old.places self.old.points) edges.now }
+        requires node { NodeFits self.old.places self.old.points node }
+        ensures grew { OnOk result (Grew (MadeOf self.old.places edges.now node) self.old self.new) }
+        ensures cost { steps.new ≤ steps.old + step_cost node.fact (degree edges.now node.point (length edges.now)) }
+    {
+        let mut at = chains.first[node.point];
+        while at < edges.len() {
+            count(node.fact, steps);
+            self.cross(edges[at], node.fact)?;
+            at = chains.next[at];
+        }
+        Ok(())
+    }
+}
+
+/// A step, if it is a state that is followed.
+fn count<L: Ledger>(fact: Fact, steps: &mut Steps<L>)
+    ensures { steps.new ≡ steps.old + step_cost fact 1 }
+{
+    match fact {
+        Fact::Reached => {}
+        Fact::Has(_, _) => steps.tick(),
     }
 }
