@@ -7,3 +7,5 @@ pub mod EffectLaws
 pub mod Crossing
 pub mod Following
 pub mod Least
+pub mod Total
+pub mod Exploring

@@ -4,9 +4,10 @@ ghost use Rattle.c_model.specs.FlowGraph.{Fits, is_in, InPlaces};
 ghost use Rattle.c_model.specs.declared.flow.Fact.TheVariants.{Reached, Has};
 ghost use Rattle.own_flow.specs.Chains.{AreChains};
 ghost use Rattle.own_flow.specs.Nodes.{NodeFits, FactFits, row_width, node_number};
-ghost use Rattle.own_flow.specs.Exploration.{Grew, Just, Maybe, OneState, EachState, SetBy, Made, MadeOf, degree, step_cost};
+ghost use Rattle.own_flow.specs.Exploration.{Grew, Just, Maybe, OneState, EachState, SetBy, Made, MadeOf, IsExplored, degree, step_cost};
 
 use crate::counter::Steps;
+use crate::graph::FlowGraph;
 use crate::nodes::{Node, copied, kept};
 use crate::rows::Chains;
 use crate::table::BitTable;
@@ -215,4 +216,27 @@ fn count<L: Ledger>(fact: Fact, steps: &mut Steps<L>)
         Fact::Reached => {}
         Fact::Has(_, _) => steps.tick(),
     }
+}
+
+/// All that is possible in the graph, in at most five steps for each place and edge.
+pub fn explore<L: Ledger>(
+    alloc: Global,
+    graph: &FlowGraph,
+    steps: &mut Steps<L>,
+) -> Result<Search, NoMemory>
+    ensures explored { IfOk result (λ s. IsExplored graph.now.places graph.now.points graph.now.edges s) }
+    ensures cost { steps.new ≤ steps.old + 5 * graph.now.places * length graph.now.edges }
+{
+    let edges = graph.edges();
+    let points = graph.points();
+    let chains = Chains::new(alloc, edges, points)?;
+    let mut search = Search::new(alloc, graph.places(), points)?;
+    search.mark(Node {
+        point: 0,
+        fact: Fact::Reached,
+    })?;
+    while let Some(node) = search.next() {
+        search.follow(edges, &chains, node, steps)?;
+    }
+    Ok(search)
 }
