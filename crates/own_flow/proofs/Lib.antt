@@ -9,3 +9,4 @@ pub mod Following
 pub mod Least
 pub mod Total
 pub mod Exploring
+pub mod RankLaws

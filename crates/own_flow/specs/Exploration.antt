@@ -9,6 +9,7 @@ use Rattle.c_model.specs.declared.flow.Fact.{Fact}
 use Rattle.c_model.specs.declared.flow.Fact.TheVariants.{Reached, Has}
 use Rattle.c_model.specs.FlowGraph.{is_in}
 use Rattle.c_model.specs.PossibleState.{Gives, Possible}
+use Rattle.cake_base.specs.declared.rules.Fault.{Fault}
 use Rattle.own_flow.specs.declared.nodes.Node.{Node}
 use Rattle.own_flow.specs.Nodes.{node_number, row_width, NodeFits}
 use Rattle.own_flow.specs.Chains.{edge_at}
@@ -89,3 +90,19 @@ pub record IsExplored (places points : ℕ) (edges : List Edge) (s : Search) : T
   pub same_points : s.points ≡ points
   pub sound : (node : Node) → NodeFits places points node → HasMark s node → Possible edges node.point node.fact
   pub complete : (node : Node) → Possible edges node.point node.fact → NodeFits places points node × HasMark s node
+
+-- a state of the set is possible for the place at the point
+abbrev pub HasState : Search → ℕ → ℕ → States → State → Type 0
+HasState s point p states state = (is_in state states ≡ true) × HasMark s (record { point = point; fact = Has p state })
+
+-- the edge breaks a rule at a place
+pub record Breaks (s : Search) (edge : Edge) (fault : Fault) : Type 0 where
+  pub p : ℕ
+  pub states : States
+  pub action : edge.action ≡ act.Need p states fault.place fault.rule
+  pub state : State
+  pub has : HasState s edge.from p states state
+
+-- one of the first n edges breaks a rule at a place
+abbrev pub BreaksBelow : Search → List Edge → ℕ → Fault → Type 0
+BreaksBelow s edges n fault = (k : ℕ) × (k < n) × Breaks s (edge_at edges k) fault

@@ -4,3 +4,4 @@ pub mod Nodes
 pub mod Effects
 pub mod Marks
 pub mod Exploration
+pub mod Ranks

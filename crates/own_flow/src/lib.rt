@@ -3,14 +3,17 @@
 #![tactic(auto)]
 
 mod counter;
+mod finds;
 mod graph;
 mod list;
 mod nodes;
+mod ranks;
 mod rows;
 mod search;
 mod table;
 
 pub use c_model::flow::{Action, State, States};
 pub use counter::Steps;
+pub use finds::solve;
 pub use graph::FlowGraph;
 pub use list::Findings;
