@@ -10,3 +10,4 @@ pub mod Least
 pub mod Total
 pub mod Exploring
 pub mod RankLaws
+pub mod FindingLaws
