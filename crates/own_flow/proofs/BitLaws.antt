@@ -70,18 +70,18 @@ bit_set words count at w bits e h b q =
     let v : ℕ = bit_or w (1 * 2 ^ (at % 64) % 2 ^ 64) in
     let zero_at : 0 + at ≡ at = omega arith in
     let one : is_set (slice_set words (at / 64) v) at ≡ true =
-        ap (λ x. bit_at x (at % 64) == 1) (get_or-set_same words (at / 64) v 0 b) ∙ ap (λ x. x == 1) (bit_at_set_same w64 w (at % 64) low) in
+    ap (λ x. bit_at x (at % 64) == 1) (get_or-set_same words (at / 64) v 0 b) ∙ ap (λ x. x == 1) (bit_at_set_same w64 w (at % 64) low) in
     let other : (j : ℕ) → j ≢ at → is_set (slice_set words (at / 64) v) j ≡ is_set words j = λ j n. ⊎_elim
-        (λ k. ap (λ x. bit_at x (j % 64) == 1) (get_or-set_other words (at / 64) (j / 64) v 0 k))
-        (λ k. ⊎_elim
-            (λ s. ap (λ i. bit_at (get_or (slice_set words (at / 64) v) i 0) (j % 64) == 1) s.1
-                ∙ ap (λ x. bit_at x (j % 64) == 1) (get_or-set_same words (at / 64) v 0 b)
-                ∙ ap (λ x. x == 1) (bit_at_set_other w64 w (at % 64) low (j % 64) k)
-                ∙ ap (λ x. bit_at x (j % 64) == 1) (q ∙ default_free words (at / 64) w b)
-                ∙ ap (λ i. bit_at (get_or words i 0) (j % 64) == 1) (sym s.1))
-            (λ s. ap (λ x. bit_at x (j % 64) == 1) (get_or-set_other words (at / 64) (j / 64) v 0 s.1))
-            (eqb_tells (j / 64) (at / 64)))
-        (apart at j n) in
+    (λ k. ap (λ x. bit_at x (j % 64) == 1) (get_or-set_other words (at / 64) (j / 64) v 0 k))
+    (λ k. ⊎_elim
+    (λ s. ap (λ i. bit_at (get_or (slice_set words (at / 64) v) i 0) (j % 64) == 1) s.1
+    ∙ ap (λ x. bit_at x (j % 64) == 1) (get_or-set_same words (at / 64) v 0 b)
+    ∙ ap (λ x. x == 1) (bit_at_set_other w64 w (at % 64) low (j % 64) k)
+    ∙ ap (λ x. bit_at x (j % 64) == 1) (q ∙ default_free words (at / 64) w b)
+    ∙ ap (λ i. bit_at (get_or words i 0) (j % 64) == 1) (sym s.1))
+    (λ s. ap (λ x. bit_at x (j % 64) == 1) (get_or-set_other words (at / 64) (j / 64) v 0 s.1))
+    (eqb_tells (j / 64) (at / 64)))
+    (apart at j n) in
     made_set (is_set words) (is_set (slice_set words (at / 64) v)) 0 count at (omega (arith, l, h)) (subst (λ i. is_set (slice_set words (at / 64) v) i ≡ true) (sym zero_at) one) (λ j n. other j (λ r. n (r ∙ sym zero_at)))
     ∙ ap (λ bs. slice_set bs at true) e
 

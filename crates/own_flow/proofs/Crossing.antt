@@ -42,8 +42,8 @@ five_states s0 s1 s2 s3 s4 s5 point p states g1 g2 g3 g4 g5 =
     let h4 : Grew A4 s0 s4 = grew_then A3 (One Moved) A4 s0 s3 s4 h3 (subst (λ n. Grew (OneState n point p states Moved) s3 s4) e3 g4) (λ x a. inl a) (λ x a. inr a) (λ x a. a) in
     let h5 : Grew A5 s0 s5 = grew_then A4 (One Deleted) A5 s0 s4 s5 h4 (subst (λ n. Grew (OneState n point p states Deleted) s4 s5) e4 g5) (λ x a. inl a) (λ x a. inr a) (λ x a. a) in
     grew_as A5 (EachState s0.places point p states) s0 s5
-        (λ x a. ⊎_elim (λ b. ⊎_elim (λ c. ⊎_elim (λ d. ⊎_elim (λ e. (Uninitialised, e.0, e.1)) (λ e. (Null, e.0, e.1)) d) (λ d. (Live, d.0, d.1)) c) (λ c. (Moved, c.0, c.1)) b) (λ b. (Deleted, b.0, b.1)) a)
-        (λ x a. which s0.places point p states x a.0 (a.1, a.2)) h5
+    (λ x a. ⊎_elim (λ b. ⊎_elim (λ c. ⊎_elim (λ d. ⊎_elim (λ e. (Uninitialised, e.0, e.1)) (λ e. (Null, e.0, e.1)) d) (λ d. (Live, d.0, d.1)) c) (λ c. (Moved, c.0, c.1)) b) (λ b. (Deleted, b.0, b.1)) a)
+    (λ x a. which s0.places point p states x a.0 (a.1, a.2)) h5
 
 set_made : (places : ℕ) (edge : Edge) (x : ℕ) → SetBy places edge.to edge.action x → Made places edge Reached x
 set_made places edge x h = by_action places edge.to edge.action x h
@@ -69,15 +69,15 @@ pub crossed_reached : (s t u : Search) (edge : Edge) → Grew (Just s.places (re
 crossed_reached s t u edge g h =
     let k : Grew (SetBy s.places edge.to edge.action) t u = subst (λ n. Grew (SetBy n edge.to edge.action) t u) g.places h in
     grew_then (Just s.places (record { point = edge.to; fact = Reached })) (SetBy s.places edge.to edge.action) (Made s.places edge Reached) s t u g k
-        (λ x e. (Reached, reach, e))
-        (λ x e. set_made s.places edge x e)
-        (λ x m. ⊎_elim (λ q. inl (m.2 ∙ ap (λ f. node_number s.places (record { point = edge.to; fact = f })) q)) (λ q. inr (made_set s.places edge.to edge.action m.0 x q m.2)) (given m.1))
+    (λ x e. (Reached, reach, e))
+    (λ x e. set_made s.places edge x e)
+    (λ x m. ⊎_elim (λ q. inl (m.2 ∙ ap (λ f. node_number s.places (record { point = edge.to; fact = f })) q)) (λ q. inr (made_set s.places edge.to edge.action m.0 x q m.2)) (given m.1))
 
 -- from a state of a place
 pub crossed_state : (s t u : Search) (edge : Edge) (p : ℕ) (state : State) (k c : Option Fact) → k ≡ kept_of edge.action p state → c ≡ copied_of edge.action p state → Grew (Maybe s.places edge.to k) s t → Grew (Maybe t.places edge.to c) t u → Grew (Made s.places edge (Has p state)) s u
 crossed_state s t u edge p state k c e f g h =
     let j : Grew (Maybe s.places edge.to c) t u = subst (λ n. Grew (Maybe n edge.to c) t u) g.places h in
     grew_then (Maybe s.places edge.to k) (Maybe s.places edge.to c) (Made s.places edge (Has p state)) s t u g j
-        (λ x m. (m.0, kept_gives edge.action p state m.0 (sym e ∙ m.1), m.2))
-        (λ x m. (m.0, copied_gives edge.action p state m.0 (sym f ∙ m.1), m.2))
-        (λ x m. ⊎_elim (λ q. inl (m.0, e ∙ q, m.2)) (λ q. inr (m.0, f ∙ q, m.2)) (given m.1))
+    (λ x m. (m.0, kept_gives edge.action p state m.0 (sym e ∙ m.1), m.2))
+    (λ x m. (m.0, copied_gives edge.action p state m.0 (sym f ∙ m.1), m.2))
+    (λ x m. ⊎_elim (λ q. inl (m.0, e ∙ q, m.2)) (λ q. inr (m.0, f ∙ q, m.2)) (given m.1))

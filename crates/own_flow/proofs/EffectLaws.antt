@@ -105,10 +105,10 @@ kept_other a x s g h e = subst (λ f. Gives a (Has x s) f) (sym e) (keep h)
 given_to : (p x : ℕ) (to s : State) (g : Fact) → x ≡ p → (if same_state s Live then Some (Has p to) else Some (Has x s)) ≡ Some g → Gives (act.Give p to) (Has x s) g
 given_to p x to s g e h = ⊎_elim
     (λ l. let k : Some (Has p to) ≡ Some g = sym (ap (λ b. if b then Some (Has p to) else Some (Has x s)) l) ∙ h in
-        subst (λ f. Gives (act.Give p to) (Has x s) f) (sym (some_same (Has p to) g k))
-            (subst (λ t. Gives (act.Give p to) (Has x t) (Has p to)) (sym (is_live s l)) (subst (λ n. Gives (act.Give p to) (Has n Live) (Has p to)) (sym e) give)))
+    subst (λ f. Gives (act.Give p to) (Has x s) f) (sym (some_same (Has p to) g k))
+    (subst (λ t. Gives (act.Give p to) (Has x t) (Has p to)) (sym (is_live s l)) (subst (λ n. Gives (act.Give p to) (Has n Live) (Has p to)) (sym e) give)))
     (λ l. let k : Some (Has x s) ≡ Some g = sym (ap (λ b. if b then Some (Has p to) else Some (Has x s)) l) ∙ h in
-        subst (λ f. Gives (act.Give p to) (Has x s) f) (sym (some_same (Has x s) g k)) (subst (λ n. Gives (act.Give p to) (Has n s) (Has n s)) (sym e) (stay (isnt_live s l))))
+    subst (λ f. Gives (act.Give p to) (Has x s) f) (sym (some_same (Has x s) g k)) (subst (λ n. Gives (act.Give p to) (Has n s) (Has n s)) (sym e) (stay (isnt_live s l))))
     (bool_cases (same_state s Live))
 
 -- what is computed follows by a rule
@@ -119,18 +119,18 @@ kept_gives (act.Copy p q) x s g h = let k = none_or (x == p) (Has x s) g h in ke
 kept_gives (act.Give p to) x s g h = ⊎_elim
     (λ e. given_to p x to s g e.1 (sym (ap (λ b. if b && same_state s Live then Some (Has p to) else Some (Has x s)) e.0) ∙ h))
     (λ e. let k : Some (Has x s) ≡ Some g = sym (ap (λ b. if b && same_state s Live then Some (Has p to) else Some (Has x s)) e.0) ∙ h in
-        kept_other (act.Give p to) x s g e.1 (some_same (Has x s) g k))
+    kept_other (act.Give p to) x s g e.1 (some_same (Has x s) g k))
     (eqb_tells x p)
 kept_gives (act.Test p states) x s g h =
     let k = none_or ((x == p) && not (is_in s states)) (Has x s) g h in ⊎_elim
     (λ e. subst (λ f. Gives (act.Test p states) (Has x s) f) (sym k.1)
-        (subst (λ n. Gives (act.Test p states) (Has n s) (Has n s)) (sym e.1) (pass (not_false (is_in s states) (and_right (x == p) (not (is_in s states)) k.0 e.0)))))
+    (subst (λ n. Gives (act.Test p states) (Has n s) (Has n s)) (sym e.1) (pass (not_false (is_in s states) (and_right (x == p) (not (is_in s states)) k.0 e.0)))))
     (λ e. kept_other (act.Test p states) x s g e.1 k.1)
     (eqb_tells x p)
 kept_gives (act.Need p states place rule) x s g h =
     let k = none_or ((x == p) && is_in s states) (Has x s) g h in ⊎_elim
     (λ e. subst (λ f. Gives (act.Need p states place rule) (Has x s) f) (sym k.1)
-        (subst (λ n. Gives (act.Need p states place rule) (Has n s) (Has n s)) (sym e.1) (meet (and_right (x == p) (is_in s states) k.0 e.0))))
+    (subst (λ n. Gives (act.Need p states place rule) (Has n s) (Has n s)) (sym e.1) (meet (and_right (x == p) (is_in s states) k.0 e.0))))
     (λ e. kept_other (act.Need p states place rule) x s g e.1 k.1)
     (eqb_tells x p)
 

@@ -16,8 +16,8 @@ degree_flat edges point k zero l h = let e : k ≡ 0 = omega (arith, l) in ap (d
 degree_flat edges point k (suc n) l h = ⊎_elim
     (λ e. ap (degree edges point) (sym e.1))
     (λ e. let m : k ≤ n = omega (arith, l, e.1) in
-        let f : (edge_at edges n).from == point ≡ false = ⊎_elim (λ z. absurd (h n m (omega arith) z.1)) (λ z. z.0) (eqb_tells (edge_at edges n).from point) in
-        ap (λ b. degree edges point n + cond b 1 0) f ∙ (let i = degree_flat edges point k n m (λ j u w. h j u (omega (arith, w))) in omega (arith, i)))
+    let f : (edge_at edges n).from == point ≡ false = ⊎_elim (λ z. absurd (h n m (omega arith) z.1)) (λ z. z.0) (eqb_tells (edge_at edges n).from point) in
+    ap (λ b. degree edges point n + cond b 1 0) f ∙ (let i = degree_flat edges point k n m (λ j u w. h j u (omega (arith, w))) in omega (arith, i)))
     (eqb_tells k (suc n))
 
 degree_more : (edges : List Edge) (point n : ℕ) → (edge_at edges n).from ≡ point → degree edges point (suc n) ≡ degree edges point n + 1
@@ -51,9 +51,11 @@ pub record Followed (edges : List Edge) (node : Node) (at : ℕ) (s t : Search) 
 
 pub followed_none : (edges : List Edge) (node : Node) (at : ℕ) (s : Search) (before : ℕ) → IsNext edges node.point 0 at → Followed edges node at s s before before
 followed_none edges node at s before h = record {
-    grew = grew_none (MadeBelow s.places edges node at) s (λ x m. h.none m.0 (omega arith) m.1 m.2);
-    high = h.high; here = h.here;
-    cost = let d = degree_flat edges node.point 0 at h.low h.none in let e : step_cost node.fact (degree edges node.point at) ≡ 0 = ap (step_cost node.fact) d ∙ cost_none node.fact in omega (arith, e) }
+  grew = grew_none (MadeBelow s.places edges node at) s (λ x m. h.none m.0 (omega arith) m.1 m.2);
+  high = h.high;
+  here = h.here;
+  cost = let d = degree_flat edges node.point 0 at h.low h.none in let e : step_cost node.fact (degree edges node.point at) ≡ 0 = ap (step_cost node.fact) d ∙ cost_none node.fact in omega (arith, e);
+}
 
 pub followed_more : (edges : List Edge) (node : Node) (at next : ℕ) (s t u : Search) (before now later : ℕ) → Followed edges node at s t before now → at < length edges → Grew (Made t.places (edge_at edges at) node.fact) t u → IsNext edges (edge_at edges at).from (at + 1) next → later ≡ now + step_cost node.fact 1 → Followed edges node next s u before later
 followed_more edges node at next s t u before now later f l g i c =
@@ -63,18 +65,20 @@ followed_more edges node at next s t u before now later f l g i c =
     let e : at + 1 ≡ suc at = omega arith in
     let d : degree edges node.point next ≡ degree edges node.point at + 1 = degree_flat edges node.point (at + 1) next n.low n.none ∙ ap (degree edges node.point) e ∙ degree_more edges node.point at from in
     record {
-    grew = grew_then (MadeBelow s.places edges node at) (Made s.places (edge_at edges at) node.fact) (MadeBelow s.places edges node next) s t u f.grew k
-        (λ x m. (m.0, (let b : m.0 < next = omega (arith, m.1, n.low) in b), m.2, m.3))
-        (λ x m. (at, (let b : at < next = omega (arith, n.low) in b), from, m))
-        (λ x m. ⊎_elim
-            (λ q. inr (subst (λ j. Made s.places (edge_at edges j) node.fact x) q.1 m.3))
-            (λ q. ⊎_elim
-                (λ b. inl (m.0, b, m.2, m.3))
-                (λ b. absurd (n.none m.0 (omega (arith, b, q.1)) m.1 m.2))
-                (below_or m.0 at))
-            (eqb_tells m.0 at));
-    high = n.high; here = n.here;
-    cost = let a : step_cost node.fact (degree edges node.point next) ≡ step_cost node.fact (degree edges node.point at) + step_cost node.fact 1 = ap (step_cost node.fact) d ∙ cost_more node.fact (degree edges node.point at) in omega (arith, a, c, f.cost) }
+      grew = grew_then (MadeBelow s.places edges node at) (Made s.places (edge_at edges at) node.fact) (MadeBelow s.places edges node next) s t u f.grew k
+          (λ x m. (m.0, (let b : m.0 < next = omega (arith, m.1, n.low) in b), m.2, m.3))
+          (λ x m. (at, (let b : at < next = omega (arith, n.low) in b), from, m))
+          (λ x m. ⊎_elim
+          (λ q. inr (subst (λ j. Made s.places (edge_at edges j) node.fact x) q.1 m.3))
+          (λ q. ⊎_elim
+          (λ b. inl (m.0, b, m.2, m.3))
+          (λ b. absurd (n.none m.0 (omega (arith, b, q.1)) m.1 m.2))
+          (below_or m.0 at))
+          (eqb_tells m.0 at));
+      high = n.high;
+      here = n.here;
+      cost = let a : step_cost node.fact (degree edges node.point next) ≡ step_cost node.fact (degree edges node.point at) + step_cost node.fact 1 = ap (step_cost node.fact) d ∙ cost_more node.fact (degree edges node.point at) in omega (arith, a, c, f.cost);
+    }
   where
     below_or : (m n : ℕ) → (m < n) ⊎ (n ≤ m)
     below_or m n = grind arith

@@ -17,17 +17,23 @@ numbers_end places xs x = map_end (node_number places) xs x
 pub grew_mark : (s : Search) (places points n : ℕ) (marks marks' : List Bool) (waiting waiting' : List Node) (node : Node) (b : Bool) → record { places = places; points = points; marks = marks; waiting = waiting } ≡ s → n ≡ node_number places node → slice_get marks n ≡ Some b → b ≡ false → marks' ≡ slice_set marks n true → waiting' ≡ waiting ++ node ∷ [] → Grew (Just s.places node) s (record { places = places; points = points; marks = marks'; waiting = waiting' })
 grew_mark s places points n marks marks' waiting waiting' node b e k h q m w =
     subst (λ t. Grew (Just t.places node) t (record { places = places; points = points; marks = marks'; waiting = waiting' })) e
-        (record { places = refl; points = refl; grown =
-            grown_mark (node_number places node) marks (map (node_number places) waiting) marks' (map (node_number places) waiting')
-                (inr (subst (λ i. slice_get marks i ≡ Some false) k (h ∙ ap Some q), m ∙ ap (λ i. slice_set marks i true) k, ap (map (node_number places)) w ∙ numbers_end places waiting node)) })
+    (record {
+      places = refl;
+      points = refl;
+      grown =
+          grown_mark (node_number places node) marks (map (node_number places) waiting) marks' (map (node_number places) waiting')
+          (inr (subst (λ i. slice_get marks i ≡ Some false) k (h ∙ ap Some q), m ∙ ap (λ i. slice_set marks i true) k, ap (map (node_number places)) w ∙ numbers_end places waiting node));
+    })
 
 pub grew_none : (A : ℕ → Type 0) (s : Search) → ((x : ℕ) → A x → ⊥) → Grew A s s
 grew_none A s h = record { places = refl; points = refl; grown = grown_none A s.marks (numbers s) h }
 
 pub grew_then : (A B C : ℕ → Type 0) (s t u : Search) → Grew A s t → Grew B t u → ((x : ℕ) → A x → C x) → ((x : ℕ) → B x → C x) → ((x : ℕ) → C x → A x ⊎ B x) → Grew C s u
 grew_then A B C s t u g h a b c = record {
-    places = h.places ∙ g.places; points = h.points ∙ g.points;
-    grown = grown_then A B C s.marks (numbers s) t.marks (numbers t) u.marks (numbers u) g.grown h.grown a b c }
+  places = h.places ∙ g.places;
+  points = h.points ∙ g.points;
+  grown = grown_then A B C s.marks (numbers s) t.marks (numbers t) u.marks (numbers u) g.grown h.grown a b c;
+}
 
 pub grew_as : (A C : ℕ → Type 0) (s t : Search) → ((x : ℕ) → A x → C x) → ((x : ℕ) → C x → A x) → Grew A s t → Grew C s t
 grew_as A C s t a c g = record { places = g.places; points = g.points; grown = grown_weak A C s.marks (numbers s) t.marks (numbers t) a c g.grown }

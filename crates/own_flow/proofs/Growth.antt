@@ -57,27 +57,31 @@ grown_none A seen waiting h = record { len = refl; keeps = λ x k. k; from = λ 
 pub grown_mark : (j : ℕ) (seen : List Bool) (waiting : List ℕ) (seen' : List Bool) (waiting' : List ℕ) → Marks j seen waiting seen' waiting' → Grown (λ x. x ≡ j) seen waiting seen' waiting'
 grown_mark j seen waiting seen' waiting' h = ⊎_elim
     (λ k. subst (λ s. Grown (λ x. x ≡ j) seen waiting s waiting') (sym k.1) (subst (λ s. Grown (λ x. x ≡ j) seen waiting seen s) (sym k.2)
-        (record { len = refl; keeps = λ x m. m; from = λ x m. inl m; all = λ x e. subst (λ y. Marked seen y) (sym e) k.0; waits = λ x m. inl m; stays = λ x m. m; marked = λ x m. inl m; budget = λ w. refl })))
+    (record { len = refl; keeps = λ x m. m; from = λ x m. inl m; all = λ x e. subst (λ y. Marked seen y) (sym e) k.0; waits = λ x m. inl m; stays = λ x m. m; marked = λ x m. inl m; budget = λ w. refl })))
     (λ k. subst (λ s. Grown (λ x. x ≡ j) seen waiting s waiting') (sym k.1) (subst (λ s. Grown (λ x. x ≡ j) seen waiting (slice_set seen j true) s) (sym k.2)
-        (record { len = set_len seen j; keeps = λ x m. set_keeps seen j x m; from = λ x m. set_from seen j x m;
-            all = λ x e. subst (λ y. Marked (slice_set seen j true) y) (sym e) (set_self seen j k.0);
-            waits = λ x m. ⊎_elim (λ a. inl a) (λ e. inr (among_right waiting (j ∷ []) x (inl e))) (set_from seen j x m);
-            stays = λ x m. among_left waiting (j ∷ []) x m;
-            marked = λ x m. ⊎_elim (λ a. inl a) (λ b. ⊎_elim (λ e. inr (subst (λ y. Marked (slice_set seen j true) y) (sym e) (set_self seen j k.0))) (λ z. absurd (z)) b) (among_split waiting (j ∷ []) x m);
-            budget = λ w. let p = left_set w seen j k.0 in let q = due_end w waiting j in omega (arith, p, q) })))
+    (record {
+      len = set_len seen j;
+      keeps = λ x m. set_keeps seen j x m;
+      from = λ x m. set_from seen j x m;
+      all = λ x e. subst (λ y. Marked (slice_set seen j true) y) (sym e) (set_self seen j k.0);
+      waits = λ x m. ⊎_elim (λ a. inl a) (λ e. inr (among_right waiting (j ∷ []) x (inl e))) (set_from seen j x m);
+      stays = λ x m. among_left waiting (j ∷ []) x m;
+      marked = λ x m. ⊎_elim (λ a. inl a) (λ b. ⊎_elim (λ e. inr (subst (λ y. Marked (slice_set seen j true) y) (sym e) (set_self seen j k.0))) (λ z. absurd (z)) b) (among_split waiting (j ∷ []) x m);
+      budget = λ w. let p = left_set w seen j k.0 in let q = due_end w waiting j in omega (arith, p, q);
+    })))
     h
 
 pub grown_then : (A B C : ℕ → Type 0) (s0 : List Bool) (k0 : List ℕ) (s1 : List Bool) (k1 : List ℕ) (s2 : List Bool) (k2 : List ℕ) → Grown A s0 k0 s1 k1 → Grown B s1 k1 s2 k2 → ((x : ℕ) → A x → C x) → ((x : ℕ) → B x → C x) → ((x : ℕ) → C x → A x ⊎ B x) → Grown C s0 k0 s2 k2
 grown_then A B C s0 k0 s1 k1 s2 k2 g h a b c = record {
-    len = h.len ∙ g.len;
-    keeps = λ x m. h.keeps x (g.keeps x m);
-    from = λ x m. ⊎_elim (λ y. ⊎_elim (λ z. inl z) (λ z. inr (a x z)) (g.from x y)) (λ y. inr (b x y)) (h.from x m);
-    all = λ x m. ⊎_elim (λ y. h.keeps x (g.all x y)) (λ y. h.all x y) (c x m);
-    waits = λ x m. ⊎_elim (λ y. ⊎_elim (λ z. inl z) (λ z. inr (h.stays x z)) (g.waits x y)) (λ y. inr y) (h.waits x m);
-    stays = λ x m. h.stays x (g.stays x m);
-    marked = λ x m. ⊎_elim (λ y. ⊎_elim (λ z. inl z) (λ z. inr (h.keeps x z)) (g.marked x y)) (λ y. inr y) (h.marked x m);
-    budget = λ w. h.budget w ∙ g.budget w }
+  len = h.len ∙ g.len;
+  keeps = λ x m. h.keeps x (g.keeps x m);
+  from = λ x m. ⊎_elim (λ y. ⊎_elim (λ z. inl z) (λ z. inr (a x z)) (g.from x y)) (λ y. inr (b x y)) (h.from x m);
+  all = λ x m. ⊎_elim (λ y. h.keeps x (g.all x y)) (λ y. h.all x y) (c x m);
+  waits = λ x m. ⊎_elim (λ y. ⊎_elim (λ z. inl z) (λ z. inr (h.stays x z)) (g.waits x y)) (λ y. inr y) (h.waits x m);
+  stays = λ x m. h.stays x (g.stays x m);
+  marked = λ x m. ⊎_elim (λ y. ⊎_elim (λ z. inl z) (λ z. inr (h.keeps x z)) (g.marked x y)) (λ y. inr y) (h.marked x m);
+  budget = λ w. h.budget w ∙ g.budget w;
+}
 
 pub grown_weak : (A C : ℕ → Type 0) (s0 : List Bool) (k0 : List ℕ) (s1 : List Bool) (k1 : List ℕ) → ((x : ℕ) → A x → C x) → ((x : ℕ) → C x → A x) → Grown A s0 k0 s1 k1 → Grown C s0 k0 s1 k1
 grown_weak A C s0 k0 s1 k1 a c g = record { len = g.len; keeps = g.keeps; from = λ x m. ⊎_elim (λ y. inl y) (λ y. inr (a x y)) (g.from x m); all = λ x m. g.all x (c x m); waits = g.waits; stays = g.stays; marked = g.marked; budget = g.budget }
-

@@ -30,27 +30,29 @@ falses_len (suc n) = omega (arith, falses_len n)
 
 pub inv_start : (Next : ℕ → ℕ → Type 0) (count : ℕ) (seen : List Bool) (waiting : List ℕ) → Grown (λ x. x ≡ 0) (falses count) [] seen waiting → Inv Next count seen waiting
 inv_start Next count seen waiting g = record {
-    len = g.len ∙ falses_len count;
-    root = g.all 0 refl;
-    sound = λ x m. ⊎_elim (λ k. absurd (none_marked count x k)) (λ e. subst (λ y. Reach Next y) (sym e) start) (g.from x m);
-    waits = λ x m. ⊎_elim (λ k. absurd (k)) (λ k. k) (g.marked x m);
-    closed = λ x m. ⊎_elim (λ k. absurd (none_marked count x k)) (λ k. inl k) (g.waits x m) }
+  len = g.len ∙ falses_len count;
+  root = g.all 0 refl;
+  sound = λ x m. ⊎_elim (λ k. absurd (none_marked count x k)) (λ e. subst (λ y. Reach Next y) (sym e) start) (g.from x m);
+  waits = λ x m. ⊎_elim (λ k. absurd (k)) (λ k. k) (g.marked x m);
+  closed = λ x m. ⊎_elim (λ k. absurd (none_marked count x k)) (λ k. inl k) (g.waits x m);
+}
 
 pub inv_step : (Next : ℕ → ℕ → Type 0) (count i : ℕ) (s : List Bool) (all k : List ℕ) (s' : List Bool) (k' : List ℕ) → all ≡ k ++ i ∷ [] → Inv Next count s all → Grown (Next i) s k s' k' → Inv Next count s' k'
 inv_step Next count i s all k s' k' e h g =
     let mi : Marked s i = h.waits i (subst (λ z. Among z i) (sym e) (among_right k (i ∷ []) i (inl refl))) in
     record {
-    len = g.len ∙ h.len;
-    root = g.keeps 0 h.root;
-    sound = λ x m. ⊎_elim (λ a. h.sound x a) (λ n. step (h.sound i mi) n) (g.from x m);
-    waits = λ x m. ⊎_elim (λ a. g.keeps x (h.waits x (subst (λ z. Among z x) (sym e) (among_left k (i ∷ []) x a)))) (λ b. b) (g.marked x m);
-    closed = λ x m. ⊎_elim
-        (λ a. ⊎_elim
-            (λ b. ⊎_elim (λ u. inl (g.stays x u)) (λ v. ⊎_elim (λ q. inr (λ y n. g.all y (subst (λ z. Next z y) q n))) (λ z. absurd (z)) v) (among_split k (i ∷ []) x (subst (λ z. Among z x) e b)))
-            (λ c. inr (λ y n. g.keeps y (c y n)))
-            (h.closed x a))
-        (λ b. inl b)
-        (g.waits x m) }
+      len = g.len ∙ h.len;
+      root = g.keeps 0 h.root;
+      sound = λ x m. ⊎_elim (λ a. h.sound x a) (λ n. step (h.sound i mi) n) (g.from x m);
+      waits = λ x m. ⊎_elim (λ a. g.keeps x (h.waits x (subst (λ z. Among z x) (sym e) (among_left k (i ∷ []) x a)))) (λ b. b) (g.marked x m);
+      closed = λ x m. ⊎_elim
+          (λ a. ⊎_elim
+          (λ b. ⊎_elim (λ u. inl (g.stays x u)) (λ v. ⊎_elim (λ q. inr (λ y n. g.all y (subst (λ z. Next z y) q n))) (λ z. absurd (z)) v) (among_split k (i ∷ []) x (subst (λ z. Among z x) e b)))
+          (λ c. inr (λ y n. g.keeps y (c y n)))
+          (h.closed x a))
+          (λ b. inl b)
+          (g.waits x m);
+    }
 
 reached_marked : (Next : ℕ → ℕ → Type 0) (count : ℕ) (seen : List Bool) → Inv Next count seen [] → {x : ℕ} → Reach Next x → Marked seen x
 reached_marked Next count seen h start = h.root

@@ -110,7 +110,7 @@ pub total : (places points : ℕ) (edges : List Edge) → ((k : ℕ) → k < len
 total places points edges h =
     let a = left_is (number_cost places edges) (points * row_width places) in
     let b = rows (5 * places) points (λ p. degree edges p (length edges)) (number_cost places edges)
-        (λ p t l. ap (λ m. cond (m == 0) 0 (degree edges ((p * row_width places + t) / row_width places) (length edges))) (mod-mul-add p (row_width places) t l)
-            ∙ ap (λ q. cond (t == 0) 0 (degree edges q (length edges))) (div-mul-add p (row_width places) t l)) in
+    (λ p t l. ap (λ m. cond (m == 0) 0 (degree edges ((p * row_width places + t) / row_width places) (length edges))) (mod-mul-add p (row_width places) t l)
+    ∙ ap (λ q. cond (t == 0) 0 (degree edges q (length edges))) (div-mul-add p (row_width places) t l)) in
     let c = degrees points (length edges) edges h in
     a ∙ b ∙ ap (λ n. 5 * places * n) c

@@ -11,6 +11,8 @@ mod ranks;
 mod rows;
 mod search;
 mod table;
+#[cfg(test)]
+mod tests;
 
 pub use c_model::flow::{Action, State, States};
 pub use counter::Steps;

@@ -70,8 +70,16 @@ pub fn kept(action: Action, place: u32, state: State) -> Option<Fact>
                 same
             }
         }
-        Action::Test(p, states) => if place == p && !states.has(state) { None } else { same },
-        Action::Need(p, states, _, _) => if place == p && states.has(state) { None } else { same },
+        Action::Test(p, states) => if place == p && !states.has(state) {
+            None
+        } else {
+            same
+        },
+        Action::Need(p, states, _, _) => if place == p && states.has(state) {
+            None
+        } else {
+            same
+        },
     }
 }
 
@@ -80,7 +88,11 @@ pub fn copied(action: Action, place: u32, state: State) -> Option<Fact>
     ensures { result ≡ copied_of action place state }
 {
     match action {
-        Action::Copy(p, q) => if place == q { Some(Fact::Has(p, state)) } else { None },
+        Action::Copy(p, q) => if place == q {
+            Some(Fact::Has(p, state))
+        } else {
+            None
+        },
         Action::Pass => None,
         Action::Set(_, _) => None,
         Action::Give(_, _) => None,

@@ -14,5 +14,7 @@ pub returns-clause-same : goal.returns-clause-same
 returns-clause-same c =
     let is = dedup_is _ _ _ c.dedup.ensures.filtered in
     let moved = c.sort_unstable.ensures.permutation in
-    λ r. (λ h. Contains-permutation _ _ r (IsPermutation-sym _ _ moved) (Contains-from_dedup _ _ r (rw is at h)),
-        λ h. rw is (Contains-dedup laws-law (λ x y e. first_of (search rules, grind arith)) _ r (Contains-permutation _ _ r moved h)))
+    λ r. (
+      λ h. Contains-permutation _ _ r (IsPermutation-sym _ _ moved) (Contains-from_dedup _ _ r (rw is at h)),
+      λ h. rw is (Contains-dedup laws-law (λ x y e. first_of (search rules, grind arith)) _ r (Contains-permutation _ _ r moved h)),
+    )

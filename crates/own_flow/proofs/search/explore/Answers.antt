@@ -24,4 +24,4 @@ pub returns-clause-explored : goal.returns-clause-explored
 returns-clause-explored g c =
     let some : 0 < c.args.graph.now.points = omega (arith, c.points-points.ensures.some, c.points-points.ensures.is) in
     subst (λ s. IsExplored c.args.graph.now.places c.args.graph.now.points c.args.graph.now.edges s) c.in_default.ensures.none
-        (explore_done c.args.graph.now.places c.args.graph.now.points c.args.graph.now.edges c.loop-node.search c.args.steps.now c.loop-node.steps some c.edges-edges.ensures.fit c.loop-node.invariant (ap (λ (s : Search). s.waiting) c.in_default.ensures.none ∙ c.in_default.ensures.empty))
+    (explore_done c.args.graph.now.places c.args.graph.now.points c.args.graph.now.edges c.loop-node.search c.args.steps.now c.loop-node.steps some c.edges-edges.ensures.fit c.loop-node.invariant (ap (λ (s : Search). s.waiting) c.in_default.ensures.none ∙ c.in_default.ensures.empty))
