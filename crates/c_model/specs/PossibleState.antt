@@ -1,6 +1,6 @@
 -- The states that a tracked place may have at a point of an ownership graph: those that a path from
 -- the start gives, followed for that place alone.
-use Rattle.std.specs.Prelude.{◌≡◌, ◌≢◌, ℕ, Bool, true, false, List, Contains}
+use Rattle.std.specs.Prelude.{◌≡◌, ◌≢◌, ℕ, true, false, List, Contains}
 use Rattle.c_model.specs.declared.flow.State.{State}
 use Rattle.c_model.specs.declared.flow.State.TheVariants.{Live}
 use Rattle.c_model.specs.declared.flow.States.{States}

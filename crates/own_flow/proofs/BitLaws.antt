@@ -1,5 +1,5 @@
 -- Bits in words of 64: what one bit is before and after a write.
-use Rattle.std.proofs.Common.{◌≡◌, ◌≢◌, ℕ, zero, suc, ◌+◌, ◌*◌, ◌^◌, ◌<◌, ◌≤◌, ◌/◌, ◌%◌, Bool, true, false, List, [], ◌∷◌, length, Option, Some, refl, sym, ap, ◌∙◌, subst, ◌⊎◌, inl, inr, ⊎_elim, arith, get_or, get_or-set_other, get_or-set_same}
+use Rattle.std.proofs.Common.{◌≡◌, ◌≢◌, ℕ, zero, suc, ◌+◌, ◌*◌, ◌^◌, ◌<◌, ◌≤◌, ◌/◌, ◌%◌, Bool, true, false, List, [], ◌∷◌, length, Some, refl, sym, ap, ◌∙◌, subst, ◌⊎◌, inl, inr, ⊎_elim, arith, get_or, get_or-set_other, get_or-set_same}
 use Rattle.std.specs.Prelude.{◌==◌, map, slice_get, slice_set, slice_index, replicate, bit_and, bit_or}
 use Rattle.std.specs.Int.{bit_at, w64}
 use Rattle.std.specs.List.{range_with_len}

@@ -1,5 +1,5 @@
 -- What a search marks by an edge.
-use Rattle.std.proofs.Common.{◌≡◌, ℕ, Bool, true, false, Option, Some, None, refl, sym, ap, ◌∙◌, subst, ◌⊎◌, inl, inr, ⊎_elim, arith}
+use Rattle.std.proofs.Common.{◌≡◌, ℕ, Option, sym, ap, ◌∙◌, subst, ◌⊎◌, inl, inr, ⊎_elim}
 use Rattle.c_model.specs.declared.flow.State.{State}
 use Rattle.c_model.specs.declared.flow.State.TheVariants.{Uninitialised, Null, Live, Moved, Deleted}
 use Rattle.c_model.specs.declared.flow.States.{States}
@@ -8,14 +8,12 @@ use Rattle.c_model.specs.declared.flow.Action.TheVariants as act
 use Rattle.c_model.specs.declared.flow.Edge.{Edge}
 use Rattle.c_model.specs.declared.flow.Fact.{Fact}
 use Rattle.c_model.specs.declared.flow.Fact.TheVariants.{Reached, Has}
-use Rattle.c_model.specs.FlowGraph.{is_in}
 use Rattle.c_model.specs.PossibleState.{Gives, reach, set}
-use Rattle.own_flow.specs.declared.nodes.Node.{Node}
 use Rattle.own_flow.specs.Nodes.{node_number}
 use Rattle.own_flow.specs.Effects.{kept_of, copied_of}
 use Rattle.own_flow.specs.Exploration.{Search, Grew, Just, Maybe, OneState, EachState, SetBy, Made}
 use Rattle.own_flow.proofs.Grew.{grew_then, grew_as}
-use Rattle.own_flow.proofs.EffectLaws.{Given, given, kept_gives, copied_gives, SetFact}
+use Rattle.own_flow.proofs.EffectLaws.{given, kept_gives, copied_gives, SetFact}
 
 -- the state is one of five
 abbrev which : (places point p : ℕ) (states : States) (x : ℕ) (s : State) → OneState places point p states s x → (((OneState places point p states Uninitialised x ⊎ OneState places point p states Null x) ⊎ OneState places point p states Live x) ⊎ OneState places point p states Moved x) ⊎ OneState places point p states Deleted x

@@ -1,16 +1,13 @@
 -- What an action gives, rule by rule, and what is computed of it.
-use Rattle.std.proofs.Common.{◌≡◌, ◌≢◌, ℕ, Bool, true, false, Option, Some, None, refl, sym, ap, ◌∙◌, subst, ◌⊎◌, inl, inr, ⊎_elim, arith, ◌<◌}
+use Rattle.std.proofs.Common.{◌≡◌, ◌≢◌, ℕ, Bool, true, false, Option, Some, None, refl, sym, ap, ◌∙◌, subst, ◌⊎◌, inl, inr, ⊎_elim, ◌<◌}
 use Rattle.std.specs.Prelude.{◌==◌, ◌&&◌, not, if◌then◌else◌, IfSome}
 use Rattle.std.proofs.lemmas.Bool.Decides.{eqb_tells}
 use Rattle.c_model.specs.declared.flow.State.{State}
 use Rattle.c_model.specs.declared.flow.State.TheVariants.{Uninitialised, Null, Live, Moved, Deleted}
-use Rattle.c_model.specs.declared.flow.States.{States}
 use Rattle.c_model.specs.declared.flow.Action.{Action}
 use Rattle.c_model.specs.declared.flow.Action.TheVariants as act
 use Rattle.c_model.specs.declared.flow.Fact.{Fact}
 use Rattle.c_model.specs.declared.flow.Fact.TheVariants.{Reached, Has}
-use Rattle.cake_base.specs.declared.places.Place.{Place}
-use Rattle.cake_base.specs.declared.rules.Rule.{Rule}
 use Rattle.c_model.specs.FlowGraph.{is_in, same_state, InPlaces}
 use Rattle.c_model.specs.PossibleState.{LeavesAlone, Gives, reach, set, copy, give, stay, pass, meet, keep}
 use Rattle.own_flow.specs.Nodes.{FactFits}

@@ -1,17 +1,16 @@
 -- The loop of the search: what it keeps, and what it has done at its end.
-use Rattle.std.proofs.Common.{◌≡◌, ◌≢◌, ℕ, zero, suc, ◌+◌, ◌*◌, ◌<◌, ◌≤◌, Bool, true, false, List, [], ◌∷◌, ◌++◌, length, Some, refl, sym, ap, ◌∙◌, subst, ◌⊎◌, inl, inr, ⊎_elim, arith}
-use Rattle.std.specs.Prelude.{All, Contains, map, slice_index_or, replicate}
-use Rattle.c_model.specs.declared.flow.Action.{Action}
+use Rattle.std.proofs.Common.{◌≡◌, ℕ, ◌+◌, ◌*◌, ◌<◌, ◌≤◌, false, List, [], ◌∷◌, ◌++◌, length, refl, sym, ap, ◌∙◌, subst, arith}
+use Rattle.std.specs.Prelude.{All, map, replicate}
 use Rattle.c_model.specs.declared.flow.Edge.{Edge}
 use Rattle.c_model.specs.declared.flow.Fact.{Fact}
-use Rattle.c_model.specs.declared.flow.Fact.TheVariants.{Reached, Has}
+use Rattle.c_model.specs.declared.flow.Fact.TheVariants.{Reached}
 use Rattle.c_model.specs.FlowGraph.{Fits}
 use Rattle.c_model.specs.PossibleState.{Gives, Possible, start, along}
 use Rattle.own_flow.specs.declared.nodes.Node.{Node}
 use Rattle.own_flow.specs.Chains.{edge_at, no_edge}
-use Rattle.own_flow.specs.Nodes.{node_number, row_width, NodeFits, FactFits}
+use Rattle.own_flow.specs.Nodes.{node_number, row_width, NodeFits}
 use Rattle.own_flow.specs.Marks.{left, due, Marked, Grown}
-use Rattle.own_flow.specs.Exploration.{Search, Grew, Just, MadeOf, numbers, HasMark, IsExplored, degree, step_cost}
+use Rattle.own_flow.specs.Exploration.{Search, Grew, Just, MadeOf, numbers, IsExplored, degree, step_cost}
 use Rattle.own_flow.proofs.Growth.{grown_weak}
 use Rattle.own_flow.proofs.Grew.{numbers_end}
 use Rattle.own_flow.proofs.ChainLaws.{edge_is}

@@ -1,23 +1,19 @@
 -- What the edges break is what the graph's findings are.
-use Rattle.std.proofs.Common.{◌≡◌, ℕ, zero, suc, ◌+◌, ◌<◌, ◌≤◌, true, List, length, refl, sym, ap, ◌∙◌, subst, ◌⊎◌, inl, inr, ⊎_elim, arith, Contains, ◌↔◌, map, Option, Some}
+use Rattle.std.proofs.Common.{◌≡◌, ℕ, ◌+◌, ◌<◌, List, length, refl, sym, ap, ◌∙◌, subst, ◌⊎◌, inl, inr, ⊎_elim, arith, Contains, ◌↔◌, map, Option, Some}
 use Rattle.std.specs.Prelude.{All, IfSome}
 use Rattle.std.specs.List.Sorted.{IsStrictlySortedBy}
 use Rattle.std.proofs.lemmas.Bool.Decides.{eqb_tells}
 use Rattle.cake_base.specs.declared.rules.Fault.{Fault}
-use Rattle.c_model.specs.declared.flow.Action.{Action}
 use Rattle.c_model.specs.declared.flow.Action.TheVariants.{Need}
 use Rattle.c_model.specs.declared.flow.Edge.{Edge}
 use Rattle.c_model.specs.declared.flow.Fact.TheVariants.{Has}
 use Rattle.c_model.specs.FlowGraph.{Fits, InPlaces}
-use Rattle.c_model.specs.PossibleState.{Possible}
 use Rattle.c_model.specs.Findings.{IsFinding, AreFindings}
-use Rattle.own_flow.specs.declared.nodes.Node.{Node}
 use Rattle.own_flow.specs.declared.ranks.Ranked.{Ranked}
 use Rattle.own_flow.specs.contracts.ranks.RankedOrd.TheImpl.{ghosts}
 use Rattle.own_flow.specs.Ranks.{ranked, fault_of}
 use Rattle.own_flow.specs.Chains.{no_edge, edge_at}
-use Rattle.own_flow.specs.Nodes.{NodeFits}
-use Rattle.own_flow.specs.Exploration.{Search, HasMark, Breaks, BreaksBelow, IsExplored}
+use Rattle.own_flow.specs.Exploration.{Search, Breaks, BreaksBelow, IsExplored}
 use Rattle.own_flow.proofs.ChainLaws.{edge_is}
 use Rattle.own_flow.proofs.RankLaws.{fault_back, unranked, in_order}
 

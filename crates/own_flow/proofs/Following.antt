@@ -1,14 +1,14 @@
 -- Following the chain of edges that begin at a node's point.
-use Rattle.std.proofs.Common.{◌≡◌, ◌≢◌, ℕ, zero, suc, ◌+◌, ◌<◌, ◌≤◌, true, false, List, length, refl, sym, ap, ◌∙◌, subst, ◌⊎◌, inl, inr, ⊎_elim, arith}
-use Rattle.std.specs.Prelude.{◌==◌, cond, slice_index}
+use Rattle.std.proofs.Common.{◌≡◌, ℕ, zero, suc, ◌+◌, ◌<◌, ◌≤◌, false, List, length, refl, sym, ap, ◌∙◌, subst, ◌⊎◌, inl, inr, ⊎_elim, arith}
+use Rattle.std.specs.Prelude.{◌==◌, cond}
 use Rattle.std.proofs.lemmas.Bool.Decides.{eqb_tells}
 use Rattle.c_model.specs.declared.flow.Edge.{Edge}
 use Rattle.c_model.specs.declared.flow.Fact.{Fact}
 use Rattle.c_model.specs.declared.flow.Fact.TheVariants.{Reached, Has}
 use Rattle.own_flow.specs.declared.nodes.Node.{Node}
-use Rattle.own_flow.specs.Chains.{edge_at, IsNext, ChainsFrom}
+use Rattle.own_flow.specs.Chains.{edge_at, IsNext}
 use Rattle.own_flow.specs.Exploration.{Search, Grew, Made, MadeBelow, MadeOf, degree, step_cost}
-use Rattle.own_flow.proofs.Grew.{grew_none, grew_then, grew_as}
+use Rattle.own_flow.proofs.Grew.{grew_none, grew_then}
 
 -- no edge of the point lies between
 degree_flat : (edges : List Edge) (point k n : ℕ) → k ≤ n → ((i : ℕ) → k ≤ i → i < n → (edge_at edges i).from ≡ point → ⊥) → degree edges point n ≡ degree edges point k

@@ -1,9 +1,8 @@
 -- How a search grows: by a node, by nothing, and by one set of nodes after another.
-use Rattle.std.proofs.Common.{◌≡◌, ℕ, ◌+◌, Bool, true, false, List, [], ◌∷◌, ◌++◌, refl, sym, ap, ◌∙◌, subst, ◌⊎◌, inl, inr, ⊎_elim, arith}
-use Rattle.std.specs.Prelude.{map, slice_get, slice_set, Some, Result, Ok, Err, OnOk}
+use Rattle.std.proofs.Common.{◌≡◌, ℕ, Bool, true, false, List, [], ◌∷◌, ◌++◌, refl, ap, ◌∙◌, subst, ◌⊎◌, inr}
+use Rattle.std.specs.Prelude.{map, slice_get, slice_set, Some}
 use Rattle.own_flow.specs.declared.nodes.Node.{Node}
 use Rattle.own_flow.specs.Nodes.{node_number}
-use Rattle.own_flow.specs.Marks.{Grown}
 use Rattle.own_flow.specs.Exploration.{Search, Grew, Just, numbers}
 use Rattle.own_flow.proofs.Growth.{grown_mark, grown_none, grown_then, grown_weak}
 

@@ -1,7 +1,7 @@
 -- The search on numbers: what is marked is reached, and goes on unless it waits.
-use Rattle.std.proofs.Common.{◌≡◌, ℕ, zero, suc, ◌+◌, ◌<◌, ◌≤◌, Bool, true, false, List, [], ◌∷◌, ◌++◌, length, Option, Some, None, refl, sym, ap, ◌∙◌, subst, ◌⊎◌, inl, inr, ⊎_elim, arith}
-use Rattle.std.specs.Prelude.{cond, slice_get, slice_set, replicate}
-use Rattle.own_flow.specs.Marks.{left, due, Marked, Marks, Among, Grown}
+use Rattle.std.proofs.Common.{◌≡◌, ℕ, zero, suc, ◌+◌, ◌<◌, Bool, false, List, [], ◌∷◌, ◌++◌, length, refl, sym, ap, ◌∙◌, subst, ◌⊎◌, inl, inr, ⊎_elim, arith}
+use Rattle.std.specs.Prelude.{replicate}
+use Rattle.own_flow.specs.Marks.{left, due, Marked, Among, Grown}
 use Rattle.own_flow.proofs.Growth.{among_left, among_right, among_split, due_end}
 
 abbrev pub falses : ℕ → List Bool

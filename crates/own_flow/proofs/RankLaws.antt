@@ -1,5 +1,5 @@
 -- The order of ranked findings is the order of findings.
-use Rattle.std.proofs.Common.{◌≡◌, ◌≢◌, ℕ, zero, suc, ◌+◌, ◌<◌, ◌≤◌, Bool, true, false, List, [], ◌∷◌, ◌++◌, length, Option, Some, refl, sym, ap, ◌∙◌, subst, ◌⊎◌, inl, inr, ⊎_elim, arith, Contains, ◌↔◌, map, get_or, rules}
+use Rattle.std.proofs.Common.{◌≡◌, ℕ, ◌<◌, List, [], ◌∷◌, ◌++◌, length, Option, Some, refl, sym, ap, ◌∙◌, subst, ◌⊎◌, inl, inr, ⊎_elim, arith, Contains, ◌↔◌, map, get_or}
 use Rattle.std.specs.Prelude.{AllPairs}
 use Rattle.std.proofs.Common.{Ordering, Less, Equal, Greater}
 use Rattle.std.specs.Ordering.{nat_cmp, ordering_then, MatchOrdering}
@@ -7,7 +7,7 @@ use Rattle.std.specs.Cmp.{ranks}
 use Rattle.cake_base.specs.declared.rules.Family.{Family}
 use Rattle.cake_base.specs.declared.rules.Family.TheVariants as family
 use Rattle.cake_base.specs.declared.rules.Fault.{Fault}
-use Rattle.c_model.specs.Findings.{family_rank, order_key, IsBelow, Precedes}
+use Rattle.c_model.specs.Findings.{family_rank, Precedes}
 use Rattle.own_flow.specs.declared.ranks.FamilyRank.{FamilyRank}
 use Rattle.own_flow.specs.declared.ranks.FamilyRank.TheVariants as rank
 use Rattle.own_flow.specs.declared.ranks.Ranked.{Ranked}

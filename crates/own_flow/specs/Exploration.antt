@@ -1,5 +1,5 @@
 -- What a search of a graph has marked, and what it marks by an edge and by all edges of a point.
-use Rattle.std.specs.Prelude.{◌≡◌, ℕ, zero, suc, ◌+◌, ◌*◌, ◌^◌, ◌<◌, Bool, true, false, cond, ◌==◌, List, [], ◌∷◌, ◌++◌, length, map, All, Option, Some, slice_get}
+use Rattle.std.specs.Prelude.{◌≡◌, ℕ, zero, suc, ◌+◌, ◌*◌, ◌^◌, ◌<◌, Bool, true, cond, ◌==◌, List, length, map, All, Option, Some}
 use Rattle.c_model.specs.declared.flow.State.{State}
 use Rattle.c_model.specs.declared.flow.States.{States}
 use Rattle.c_model.specs.declared.flow.Action.{Action}
@@ -13,7 +13,7 @@ use Rattle.cake_base.specs.declared.rules.Fault.{Fault}
 use Rattle.own_flow.specs.declared.nodes.Node.{Node}
 use Rattle.own_flow.specs.Nodes.{node_number, row_width, NodeFits}
 use Rattle.own_flow.specs.Chains.{edge_at}
-use Rattle.own_flow.specs.Marks.{Marks, Marked, Grown}
+use Rattle.own_flow.specs.Marks.{Marked, Grown}
 
 -- a search: the marks of nodes by their numbers, and the nodes that wait
 pub record Search : Type 0 where

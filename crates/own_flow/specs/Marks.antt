@@ -1,5 +1,5 @@
 -- Marks over numbers, what waits to be followed, and what is left to do.
-use Rattle.std.specs.Prelude.{◌≡◌, ℕ, zero, suc, ◌+◌, Bool, true, false, cond, List, [], ◌∷◌, ◌++◌, length, slice_get, slice_set, Some, ◌⊎◌}
+use Rattle.std.specs.Prelude.{◌≡◌, ℕ, suc, ◌+◌, Bool, true, false, cond, List, [], ◌∷◌, ◌++◌, length, slice_get, slice_set, Some, ◌⊎◌}
 
 -- the weight of what isn't marked
 abbrev pub left : (ℕ → ℕ) → List Bool → ℕ

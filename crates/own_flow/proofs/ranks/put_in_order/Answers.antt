@@ -1,8 +1,7 @@
-use Rattle.std.proofs.Common.{◌≡◌, true, Bool, Contains, rules, arith}
+use Rattle.std.proofs.Common.{rules, arith}
 use Rattle.std.proofs.lemmas.List.Filters.{dedup_is}
 use Rattle.std.proofs.lemmas.List.Kept.{Contains-dedup, Contains-from_dedup, IsStrictlySortedBy-dedup}
 use Rattle.std.proofs.lemmas.List.Sorted.{Contains-permutation, IsPermutation-sym}
-use Rattle.own_flow.specs.declared.ranks.Ranked.{Ranked}
 use Rattle.own_flow.specs.contracts.ranks.RankedOrd.TheImpl.Laws.{total-law, matches_eq-law}
 use Rattle.own_flow.specs.contracts.ranks.RankedEq.TheImpl.Laws.{laws-law}
 use Rattle.own_flow.proofs.ranks.put_in_order.Goals as goal

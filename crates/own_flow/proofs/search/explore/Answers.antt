@@ -1,6 +1,6 @@
-use Rattle.std.proofs.Common.{◌≡◌, ◌+◌, ◌*◌, ◌≤◌, ◌<◌, length, sym, ◌∙◌, ap, subst, arith}
+use Rattle.std.proofs.Common.{◌+◌, ◌≤◌, ◌<◌, length, ◌∙◌, ap, subst, arith}
 use Rattle.own_flow.specs.Exploration.{Search, Grew, MadeOf, degree, step_cost, IsExplored}
-use Rattle.own_flow.proofs.Exploring.{explore_start, explore_step, explore_cost, explore_less, explore_done, fresh, work}
+use Rattle.own_flow.proofs.Exploring.{explore_start, explore_step, explore_cost, explore_less, explore_done, fresh}
 use Rattle.own_flow.proofs.search.explore.Goals as goal
 
 pub loop-node-init : goal.loop-node-init

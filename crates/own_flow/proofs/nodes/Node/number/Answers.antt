@@ -1,5 +1,5 @@
-use Rattle.std.proofs.Common.{◌+◌, ◌*◌, ◌≤◌, arith}
-use Rattle.own_flow.specs.Nodes.{fact_number, row_width}
+use Rattle.std.proofs.Common.{arith}
+use Rattle.own_flow.specs.Nodes.{row_width}
 use Rattle.own_flow.proofs.NodeLaws.{row_below, fact_below}
 use Rattle.own_flow.proofs.nodes.Node.number.Goals as goal
 

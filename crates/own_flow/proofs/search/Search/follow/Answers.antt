@@ -1,6 +1,6 @@
-use Rattle.std.proofs.Common.{◌≡◌, ◌+◌, ◌<◌, length, sym, ◌∙◌, subst, arith}
+use Rattle.std.proofs.Common.{◌+◌, ◌<◌, length, sym, ◌∙◌, subst, arith}
 use Rattle.own_flow.specs.Chains.{IsNext, edge_at}
-use Rattle.own_flow.proofs.ChainLaws.{number_is, edge_is}
+use Rattle.own_flow.proofs.ChainLaws.{number_is}
 use Rattle.own_flow.proofs.Following.{followed_none, followed_more, followed_cost}
 use Rattle.own_flow.proofs.search.Search.follow.Goals as goal
 
