@@ -1,6 +1,8 @@
 //! The ownership graph of a function: states of tracked places, actions and edges.
-ghost use Rattle.std.specs.Prelude.{◌≡◌, ◌||◌, false};
+ghost use Rattle.std.specs.Prelude.{◌≡◌, ◌||◌, false, List};
+ghost use Rattle.cake_base.specs.declared.rules.Fault.{Fault};
 ghost use Rattle.c_model.specs.FlowGraph.{is_in, same_state};
+ghost use Rattle.c_model.specs.Findings.{AreFindings};
 
 use cake_base::{Place, Rule};
 
@@ -106,3 +108,8 @@ pub enum Fact {
     Reached,
     Has(u32, State),
 }
+
+/// A law: a graph has one list of findings, so what is told of the list tells it whole.
+pub fn one_list_of_findings()
+    ensures { (edges : List Edge) (first second : List Fault) → AreFindings edges first → AreFindings edges second → first ≡ second }
+{}

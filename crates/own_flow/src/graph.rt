@@ -1,5 +1,5 @@
 //! The graph that a caller builds, point by point and edge by edge.
-ghost use Rattle.std.specs.Prelude.{◌≡◌, ◌+◌, ◌<◌, [], ◌∷◌, ◌++◌, length, All, IfOk, OnOk, OnErr};
+ghost use Rattle.std.specs.Prelude.{◌≡◌, ◌+◌, ◌<◌, ◌≤◌, [], ◌∷◌, ◌++◌, length, All, IfOk, OnOk, OnErr};
 ghost use Rattle.c_model.specs.FlowGraph.{Fits};
 
 use c_model::flow::{Action, Edge};
@@ -38,11 +38,13 @@ impl FlowGraph {
         })
     }
 
-    /// Adds a point, and gives its number. Unchanged on refusal.
+    /// Adds a point, and gives its number. It is refused only where no machine word counts one point
+    /// more; unchanged then.
     pub fn point(&mut self) -> Result<usize, NoMemory>
         ensures number { IfOk result (λ n. n ≡ self.old.points) }
         ensures ok { OnOk result (self.new ≡ record self.old { points = self.old.points + 1 }) }
         ensures err { OnErr result (self.new ≡ self.old) }
+        ensures full { OnErr result (usize.MAX ≤ self.old.points) }
     {
         let number = self.points;
         match number.checked_add(1) {
