@@ -1,13 +1,13 @@
 //! The findings of a graph.
-ghost use Rattle.std.specs.Prelude.{◌≡◌, ◌+◌, ◌*◌, ◌<◌, ◌≤◌, ◌++◌, ◌∷◌, [], ◌⊎◌, ◌↔◌, true, ℕ, length, map, All, Contains, IfOk, IfSome, OnOk, IsTrue, Some};
+ghost use Rattle.std.specs.Prelude.{◌≡◌, ◌+◌, ◌*◌, ◌<◌, ◌≤◌, ◌⊎◌, ◌↔◌, length, map, All, Contains, IfOk, IfSome, OnOk, IsTrue, Some};
 ghost use Rattle.cake_base.specs.declared.rules.Fault.{Fault};
-ghost use Rattle.c_model.specs.FlowGraph.{Fits, is_in};
+ghost use Rattle.c_model.specs.FlowGraph.{Fits};
 ghost use Rattle.c_model.specs.Findings.{AreFindings};
 ghost use Rattle.c_model.specs.declared.flow.State.{State};
 ghost use Rattle.c_model.specs.declared.flow.Fact.TheVariants.{Has};
 ghost use Rattle.own_flow.specs.declared.ranks.Ranked.{Ranked};
 ghost use Rattle.own_flow.specs.Ranks.{fault_of};
-ghost use Rattle.own_flow.specs.Exploration.{HasMark, HasState, Breaks, BreaksBelow};
+ghost use Rattle.own_flow.specs.Exploration.{HasState, Breaks, BreaksBelow};
 
 use crate::counter::Steps;
 use crate::graph::FlowGraph;

@@ -1,5 +1,5 @@
 //! The edges of a graph by the point where they begin.
-ghost use Rattle.std.specs.Prelude.{◌<◌, length, All, IfOk};
+ghost use Rattle.std.specs.Prelude.{◌<◌, All, IfOk};
 ghost use Rattle.own_flow.specs.Chains.{AreChains};
 
 use c_model::flow::Edge;

@@ -1,6 +1,6 @@
 //! The worklist: what is possible at each point, each fact followed once.
-ghost use Rattle.std.specs.Prelude.{◌≡◌, ◌+◌, ◌*◌, ◌^◌, ◌<◌, ◌≤◌, [], ◌∷◌, ◌++◌, length, false, true, replicate, All, IfOk, OnOk, IfSome, IfNone, Some, slice_get};
-ghost use Rattle.c_model.specs.FlowGraph.{Fits, is_in, InPlaces};
+ghost use Rattle.std.specs.Prelude.{◌≡◌, ◌+◌, ◌*◌, ◌<◌, ◌≤◌, [], ◌∷◌, ◌++◌, length, false, replicate, All, IfOk, OnOk, IfSome, IfNone, Some, slice_get};
+ghost use Rattle.c_model.specs.FlowGraph.{Fits, InPlaces};
 ghost use Rattle.c_model.specs.declared.flow.Fact.TheVariants.{Reached, Has};
 ghost use Rattle.own_flow.specs.Chains.{AreChains};
 ghost use Rattle.own_flow.specs.Nodes.{NodeFits, FactFits, row_width, node_number};
