@@ -1,3 +1,4 @@
 pub mod Spelled
 pub mod UniqueReading
 pub mod Rows
+pub mod OneFindings

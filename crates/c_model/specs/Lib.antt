@@ -18,3 +18,6 @@ pub mod FirstRow
 pub mod Verdict
 pub mod Words
 pub mod Answer
+pub mod FlowGraph
+pub mod PossibleState
+pub mod Findings

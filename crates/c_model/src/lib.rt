@@ -5,6 +5,7 @@
 #![tactic(auto)]
 
 pub mod first_tokens;
+pub mod flow;
 pub mod laws;
 pub mod numbers;
 pub mod outcomes;
