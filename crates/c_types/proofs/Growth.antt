@@ -56,7 +56,7 @@ struct_extends zero d h f g k s l e = cc
 struct_extends (suc c) zero h f g k s l e = absurd (omega (arith, h))
 struct_extends (suc c) (suc d) h f g k s l e =
     whole_extends (type_layout (struct_layout c f)) (type_layout (struct_layout d g))
-      (type_extends (struct_layout c f) (struct_layout d g) (struct_extends c d (omega (arith, h)) f g k)) (f s) (g s) (k s) l e
+    (type_extends (struct_layout c f) (struct_layout d g) (struct_extends c d (omega (arith, h)) f g k)) (f s) (g s) (k s) l e
 
 -- an incomplete structure has no layout
 pub none_incomplete : (d : ℕ) (f : StructId → Option (List Member)) (s : StructId) → f s ≡ None → struct_layout d f s ≡ None
@@ -169,7 +169,7 @@ pub layout_completed : (xs : List Structure) (k : ℕ) (ms : List Member) → k 
 unfolding Extends
 layout_completed xs k ms h e =
     struct_extends (complete_count xs) (complete_count (completed xs k ms)) (omega (arith, count_completed xs k ms h e)) (members_of xs) (members_of (completed xs k ms))
-      (completed_extends xs k ms e)
+    (completed_extends xs k ms e)
 
 -- the structure that is completed itself
 pub layout_of_completed : (xs : List Structure) (id : StructId) (ms : List Member) → id.0 < length xs → members_of xs id ≡ None
@@ -181,9 +181,10 @@ layout_of_completed xs id ms h e l given =
   where
     ys : List Structure
     ys = completed xs id.0 ms
+
     more : Extends (layout_of xs) (type_layout (struct_layout (complete_count xs) (members_of ys)))
     more = type_extends (layout_in xs) (struct_layout (complete_count xs) (members_of ys))
-      (struct_extends (complete_count xs) (complete_count xs) (omega arith) (members_of xs) (members_of ys) (completed_extends xs id.0 ms e))
+        (struct_extends (complete_count xs) (complete_count xs) (omega arith) (members_of xs) (members_of ys) (completed_extends xs id.0 ms e))
 
 all_completed : (n : ℕ) (xs : List Structure) (k : ℕ) (ms : List Member) → list_all (λ (m : Member). names_below n m.ty) ms ≡ true
     → list_all (λ (s : Structure). members_below n s.members) xs ≡ true → list_all (λ (s : Structure). members_below n s.members) (completed xs k ms) ≡ true
@@ -199,4 +200,4 @@ pub closed_completed : (xs : List Structure) (k : ℕ) (ms : List Member) → li
     → IsTrue (is_closed xs) → IsTrue (is_closed (completed xs k ms))
 closed_completed xs k ms h e =
     subst (λ (n : ℕ). list_all (λ (s : Structure). members_below n s.members) (completed xs k ms) ≡ true) (sym (length_completed xs k ms))
-      (all_completed (length xs) xs k ms h e)
+    (all_completed (length xs) xs k ms h e)

@@ -37,11 +37,11 @@ pub table_push : (es : List Entry) (e : Entry) → e.body ≡ None → length es
 table_push es e h n t = record {
   few = omega (arith, length-append es (e ∷ []), n);
   laid = λ s.
-    ap (option_map (λ (b : Body). b.extent)) (body_push es e h s.0) ∙ t.laid s
-    ∙ ap (option_map kept) (sym (layout_push (structures es) (structure_of e) (members_none e h) s))
-    ∙ ap (λ (xs : List Structure). option_map kept (layout_in xs s)) (sym (map-append structure_of es (e ∷ [])));
+      ap (option_map (λ (b : Body). b.extent)) (body_push es e h s.0) ∙ t.laid s
+      ∙ ap (option_map kept) (sym (layout_push (structures es) (structure_of e) (members_none e h) s))
+      ∙ ap (λ (xs : List Structure). option_map kept (layout_in xs s)) (sym (map-append structure_of es (e ∷ [])));
   closed =
-    subst (λ (xs : List Structure). IsTrue (is_closed xs)) (sym (map-append structure_of es (e ∷ [])))
+      subst (λ (xs : List Structure). IsTrue (is_closed xs)) (sym (map-append structure_of es (e ∷ [])))
       (closed_push (structures es) (structure_of e) (members_none e h) t.closed);
 }
 
@@ -104,7 +104,7 @@ other_laid : (es : List Entry) (id : StructId) (ms : List Member) (s : StructId)
 other_laid es id ms s t h e ne None f =
     let none : members_of (structures es) s ≡ None = members_kept es s ∙ ap (option_map (λ (b : Body). b.members)) f in
     sym (ap (option_map kept) (none_incomplete (complete_count (completed (structures es) id.0 ms)) (members_of (completed (structures es) id.0 ms)) s
-      (other_completed (structures es) id.0 s.0 ms ne ∙ none)))
+    (other_completed (structures es) id.0 s.0 ms ne ∙ none)))
 other_laid es id ms s t h e ne (Some b) f =
     let found = from_kept b.extent (layout_in (structures es) s) (sym (ap (option_map (λ (x : Body). x.extent)) f) ∙ t.laid s) in
     found.2 ∙ sym (ap (option_map kept) (layout_completed (structures es) id.0 ms (omega (arith, length-map es structure_of, h)) e s found.0 found.1))
@@ -121,12 +121,15 @@ table_completed es id b t h e known given = record {
   where
     here : (l : Layout) → layout_of_members (layout_of (structures es)) (Some b.members) ≡ Some l → layout_in (completed (structures es) id.0 b.members) id ≡ Some l
     here = layout_of_completed (structures es) id b.members (omega (arith, length-map es structure_of, h)) e
+
     same_id : extent_in (with_body es id.0 b) id ≡ option_map kept (layout_in (completed (structures es) id.0 b.members) id)
     same_id =
         let found = from_kept b.extent (layout_of_members (layout_of (structures es)) (Some b.members)) given in
         ap (option_map (λ (x : Body). x.extent)) (same_body es id.0 b h) ∙ found.2 ∙ sym (ap (option_map kept) (here found.0 found.1))
+
     same : (s : StructId) → s.0 ≡ id.0 → extent_in (with_body es id.0 b) s ≡ option_map kept (layout_in (completed (structures es) id.0 b.members) s)
     same s f = subst (λ (n : ℕ). extent_in (with_body es id.0 b) (record { 0 = n }) ≡ option_map kept (layout_in (completed (structures es) id.0 b.members) (record { 0 = n }))) (sym f) same_id
+
     other : (s : StructId) → (s.0 ≡ id.0 → ⊥) → extent_in (with_body es id.0 b) s ≡ option_map kept (layout_in (completed (structures es) id.0 b.members) s)
     other s ne = ap (option_map (λ (x : Body). x.extent)) (other_body es id.0 s.0 b ne) ∙ other_laid es id b.members s t h e ne (body_of (slice_get es s.0)) refl
 

@@ -55,8 +55,10 @@ whole_laid es structs e h ms c n = impossible (ap is_some n ∙ some_map kept (l
   where
     impossible : false ≡ true → ⊥
     impossible f = cc
+
     complete : list_all (λ (x : Member). is_complete (structures es) x.ty) ms ≡ true
     complete = ap (λ (xs : List Structure). list_all (λ (x : Member). is_complete xs x.ty) ms) e ∙ c
+
     there : is_some (layout_of_members (layout_of structs) (Some ms)) ≡ true
     there =
         ap (λ (xs : List Structure). is_some (layout_of_members (layout_of xs) (Some ms))) (sym e)
@@ -68,10 +70,10 @@ pub completed_table : (es ds : List Entry) (structs : List Structure) (id : Stru
     → ms ≡ b.members → Some b.extent ≡ option_map kept (layout_of_members (layout_of structs) (Some ms)) → IsTable ds
 completed_table es ds structs id b ms e d h there none known same given =
     subst IsTable (sym d)
-      (table_completed es id b h (omega (arith, length-map es structure_of, ap length e, there)) (ap (λ (xs : List Structure). members_of xs id) e ∙ none)
-        (ap (λ (xs : List Structure). list_all (λ (x : Member). knows xs x.ty) b.members) e ∙ known)
-        (given ∙ ap (λ (xs : List Member). option_map kept (layout_of_members (layout_of structs) (Some xs))) same
-          ∙ ap (λ (xs : List Structure). option_map kept (layout_of_members (layout_of xs) (Some b.members))) (sym e)))
+    (table_completed es id b h (omega (arith, length-map es structure_of, ap length e, there)) (ap (λ (xs : List Structure). members_of xs id) e ∙ none)
+    (ap (λ (xs : List Structure). list_all (λ (x : Member). knows xs x.ty) b.members) e ∙ known)
+    (given ∙ ap (λ (xs : List Member). option_map kept (layout_of_members (layout_of structs) (Some xs))) same
+    ∙ ap (λ (xs : List Structure). option_map kept (layout_of_members (layout_of xs) (Some b.members))) (sym e)))
 
 pub completed_view : (es ds : List Entry) (structs : List Structure) (k : ℕ) (b : Body) → structures es ≡ structs → ds ≡ with_body es k b
     → structures ds ≡ completed structs k b.members

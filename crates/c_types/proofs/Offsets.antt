@@ -82,8 +82,8 @@ row_size : (f : CType → Option m.Layout) (ms : List Member) (ls : List m.Layou
     → Some row ≡ option_map (s.more_behind s.no_member) (m.member_layouts f (take k ms)) → row.size ≡ (m.in_a_row (take k ls)).size
 row_size f ms ls k row h small r =
     let whole : row ≡ s.kept (m.in_a_row (take k ls)) =
-      same_Some row (s.more_behind s.no_member (take k ls)) (r ∙ ap (option_map (s.more_behind s.no_member)) (taken_layouts f ms ls k h))
-      ∙ kept_behind m.no_member (take k ls) in
+    same_Some row (s.more_behind s.no_member (take k ls)) (r ∙ ap (option_map (s.more_behind s.no_member)) (taken_layouts f ms ls k h))
+    ∙ kept_behind m.no_member (take k ls) in
     let size : row.size ≡ s.limited (m.in_a_row (take k ls)).size = ap (λ (e : Extent). e.size) whole in
     omega (arith, size, taken_below m.no_member ls k, small)
 

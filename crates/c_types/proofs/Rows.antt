@@ -1,5 +1,5 @@
 -- Members in a row, as a loop goes over them.
-use Rattle.std.proofs.Common.{◌≡◌, ℕ, ◌+◌, ◌≤◌, ◌<◌, max, List, [], ◌∷◌, drop, drop-cons, add-one, get_or, length,  Option, Some, None, arith, refl, sym, ◌∙◌, ap, subst, suc}
+use Rattle.std.proofs.Common.{◌≡◌, ℕ, ◌+◌, ◌≤◌, ◌<◌, max, List, [], ◌∷◌, drop, drop-cons, add-one, get_or, length, Option, Some, None, arith, refl, sym, ◌∙◌, ap, subst, suc}
 use Rattle.std.proofs.lemmas.Option.{same_Some}
 use Rattle.std.specs.Option.{option_map}
 use Rattle.c_model.specs.Structures.{Member, Structure}
@@ -36,9 +36,9 @@ pub row_step : (structs : List Structure) (ms : List Member) (i : ℕ) (x : Memb
     → Some e ≡ option_map s.kept (m.layout_of structs x.ty) → next ≡ s.followed_by row e → s.IsBounded e → IsRow structs ms i row → IsRow structs ms (i + 1) next
 row_step structs ms i x row e next h is laid made small r = record {
   rest =
-    ap (λ (y : Extent). rest_of structs y (drop (i + 1) ms)) made
-    ∙ laid_behind row e (m.layout_of structs x.ty) (m.member_layouts (m.layout_of structs) (drop (i + 1) ms)) laid
-    ∙ ap (rest_of structs row) (sym (first ms i x h is)) ∙ r.rest;
+      ap (λ (y : Extent). rest_of structs y (drop (i + 1) ms)) made
+      ∙ laid_behind row e (m.layout_of structs x.ty) (m.member_layouts (m.layout_of structs) (drop (i + 1) ms)) laid
+      ∙ ap (rest_of structs row) (sym (first ms i x h is)) ∙ r.rest;
   bounded = subst s.IsBounded (sym made) (followed_bounded row e r.bounded small);
 }
   where

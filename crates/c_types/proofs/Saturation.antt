@@ -24,13 +24,14 @@ limited_product : (n k : ℕ) → s.limited (n * s.limited k) ≡ s.limited (n *
 limited_product zero k = grind arith
 limited_product (suc n) k =
     ⊎_elim (λ h. ap (λ (x : ℕ). s.limited (suc n * x)) (limited_small k h))
-      (λ h. omega (arith, limited_large k h, suc-mul n k, suc-mul n (s.limited k), h)) (cases_lt k s.past_limit)
+    (λ h. omega (arith, limited_large k h, suc-mul n k, suc-mul n (s.limited k), h)) (cases_lt k s.past_limit)
 
 limited_sum : (a b c : ℕ) → s.limited (next_multiple_of (s.limited a) c + s.limited b) ≡ s.limited (next_multiple_of a c + b)
 limited_sum a b c = ⊎_elim small large (cases_lt a s.past_limit)
   where
     small : a < s.past_limit → s.limited (next_multiple_of (s.limited a) c + s.limited b) ≡ s.limited (next_multiple_of a c + b)
     small h = rw (limited_small a h) (omega arith)
+
     large : s.past_limit ≤ a → s.limited (next_multiple_of (s.limited a) c + s.limited b) ≡ s.limited (next_multiple_of a c + b)
     large h = omega (arith, limited_large a h, h)
 
@@ -39,6 +40,7 @@ limited_padded a c = ⊎_elim small large (cases_lt a s.past_limit)
   where
     small : a < s.past_limit → s.limited (next_multiple_of (s.limited a) c) ≡ s.limited (next_multiple_of a c)
     small h = rw (limited_small a h) refl
+
     large : s.past_limit ≤ a → s.limited (next_multiple_of (s.limited a) c) ≡ s.limited (next_multiple_of a c)
     large h = omega (arith, limited_large a h, h)
 
@@ -129,4 +131,4 @@ kept_bounded (Some l) h = record { size = omega arith; positive = h.positive; sm
 pub extent_bounded : (structs : List Structure) (id : StructId) (r : Option Extent) → r ≡ option_map s.kept (m.layout_in structs id) → IfSome r s.IsBounded
 extent_bounded structs id r e =
     subst (λ (x : Option Extent). IfSome x s.IsBounded) (sym e)
-      (kept_bounded (m.layout_in structs id) (struct_aligned (m.complete_count structs) (members_of structs) id))
+    (kept_bounded (m.layout_in structs id) (struct_aligned (m.complete_count structs) (members_of structs) id))

@@ -216,7 +216,7 @@ unsigned_case t a b n v s h k e f w g =
     let left : unsigned_abs (passed a) ≡ unsigned_abs a = ap unsigned_abs (back t a h) in
     let right : unsigned_abs (passed b) ≡ unsigned_abs b = ap unsigned_abs (back t b k) in
     let bits : (unsigned_abs (passed a) * unsigned_abs (passed b)) % unsigned_abs (passed n) ≡ (unsigned_abs a * unsigned_abs b) % (2 ^ m.width t) =
-      ap₂ (λ (x y : ℕ). x % y) (ap₂ (λ (x y : ℕ). x * y) left right) modulus in
+    ap₂ (λ (x y : ℕ). x % y) (ap₂ (λ (x y : ℕ). x * y) left right) modulus in
     let product : pos (unsigned_abs a) *ℤ pos (unsigned_abs b) ≡ a *ℤ b = ap₂ (λ (x y : ℤ). x *ℤ y) (sym (unsigned_is t a s h)) (sym (unsigned_is t b s k)) in
     back t v g ∙ w ∙ ap (m.value_of t) (bits ∙ residue (unsigned_abs a) (unsigned_abs b) (2 ^ m.width t) ∙ ap (m.bits_of t) product)
 

@@ -79,9 +79,7 @@ fn compatible_forms(a: &TypeForm, b: &TypeForm) -> bool
         }
         (TypeForm::Struct(a), TypeForm::Struct(b)) => a.0 == b.0,
         (TypeForm::Function(a, ps, v), TypeForm::Function(b, qs, w)) => {
-            compatible_passed(a, b)
-                && compatible_lists(ps.as_slice(), qs.as_slice())
-                && *v == *w
+            compatible_passed(a, b) && compatible_lists(ps.as_slice(), qs.as_slice()) && *v == *w
         }
         _ => false,
     }

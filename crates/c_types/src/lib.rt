@@ -8,12 +8,14 @@ mod layout;
 mod members;
 mod operations;
 mod structs;
+#[cfg(test)]
+mod tests;
 mod types;
 
 pub use c_model::numbers::{Basic, BinOp, Const};
 pub use c_model::types::{Quals, StructId};
-pub use integers::{common, fits, highest, is_signed, lowest, promoted, width};
 pub use compat::compatible;
+pub use integers::{common, fits, highest, is_signed, lowest, promoted, width};
 pub use layout::{align_of, is_complete, member_offset, size_of};
 pub use members::Members;
 pub use operations::{OpFault, const_op, convert};
