@@ -1,6 +1,6 @@
 -- Complete types, sizes, alignments and offsets (ISO/IEC 9899:2024, 6.2.5, 6.2.8, 6.5.4.5,
 -- 6.7.3.2), in the LP64 profile.
-use Rattle.std.specs.Prelude.{ℕ, zero, suc, ◌+◌, ◌*◌, ◌/◌, max, Bool, true, false, ◌&&◌, if◌then◌else◌, nat_le, List, [], ◌∷◌, take, Option, Some, None, is_some, slice_get}
+use Rattle.std.specs.Prelude.{ℕ, zero, suc, ◌+◌, ◌*◌, ◌/◌, max, Bool, true, false, if◌then◌else◌, nat_le, List, [], ◌∷◌, take, Option, Some, None, is_some, slice_get}
 use Rattle.std.specs.Option.{option_map, option_and_then}
 use Rattle.std.specs.List.{fold}
 use Rattle.std.specs.Int.{next_multiple_of}

@@ -1,6 +1,5 @@
 -- The types of the language (ISO/IEC 9899:2024, 6.2.5).
-use Rattle.std.specs.Prelude.{ℕ, ◌+◌, Bool, List, [], ◌∷◌, Option, Some, None, slice_get}
-use Rattle.cake_base.specs.declared.places.Place.{Place}
+use Rattle.std.specs.Prelude.{ℕ, ◌+◌, Bool, List, [], ◌∷◌, Option}
 use Rattle.c_model.specs.declared.numbers.Basic.{Basic}
 use Rattle.c_model.specs.declared.types.Quals.{Quals}
 use Rattle.c_model.specs.declared.types.StructId.{StructId}

@@ -1,12 +1,12 @@
 -- The table of structures as the code keeps it, while it grows.
-use Rattle.std.proofs.Common.{◌≡◌, ℕ, zero, suc, ◌+◌, ◌≤◌, ◌<◌, ◌^◌, Bool, true, false, List, [], ◌∷◌, ◌++◌, length, map, Option, Some, None, IfSome, is_some, slice_get, slice_set, slice_index_or, ◌&&◌, IsTrue, arith, length-append, refl, sym, ◌∙◌, ap, subst, ⊎_elim}
+use Rattle.std.proofs.Common.{◌≡◌, ℕ, zero, suc, ◌<◌, true, List, [], ◌∷◌, ◌++◌, length, Option, Some, None, IfSome, slice_get, slice_set, slice_index_or, IsTrue, arith, length-append, refl, sym, ◌∙◌, ap, subst, ⊎_elim}
 use Rattle.std.proofs.lemmas.List.{map-append, length-map}
 use Rattle.std.proofs.lemmas.Option.{slice_get-map}
 use Rattle.std.proofs.lemmas.Bool.{and_parts, cases_eq}
 use Rattle.std.specs.Option.{option_map}
 use Rattle.std.specs.List.{list_all}
 use Rattle.c_model.specs.declared.types.StructId.{StructId}
-use Rattle.c_model.specs.Structures.{Member, Structure, members_in, members_of, completed, members_below, names_below, is_closed, knows}
+use Rattle.c_model.specs.Structures.{Member, Structure, members_in, members_of, completed, members_below, is_closed, knows}
 use Rattle.c_model.specs.Layout.{Layout, layout_in, layout_of, layout_of_members, complete_count}
 use Rattle.c_types.specs.declared.extents.Extent.{Extent}
 use Rattle.c_types.specs.declared.structs.Body.{Body}

@@ -1,14 +1,13 @@
 -- A type has a layout exactly where it is complete.
-use Rattle.std.proofs.Common.{◌≡◌, ℕ, ◌<◌, Bool, true, false, ◌&&◌, List, [], ◌∷◌, length, Option, Some, None, is_some, slice_get, arith, refl, sym, ◌∙◌, ap, subst}
+use Rattle.std.proofs.Common.{◌≡◌, ℕ, ◌<◌, true, false, List, [], ◌∷◌, length, Option, Some, None, is_some, slice_get, arith, refl, sym, ◌∙◌, ap, subst}
 use Rattle.std.proofs.lemmas.List.{length-map}
 use Rattle.std.proofs.lemmas.Bool.{and_parts}
 use Rattle.std.specs.Option.{option_map}
 use Rattle.std.specs.List.{list_all}
 use Rattle.c_model.specs.declared.types.StructId.{StructId}
-use Rattle.c_model.specs.Types.{CType, typed, Form, Void, Integer, Enum, Pointer, Array, Struct, Function}
+use Rattle.c_model.specs.Types.{CType, typed, Void, Integer, Enum, Pointer, Array, Struct, Function}
 use Rattle.c_model.specs.Structures.{Member, Structure, members_of, completed, knows}
-use Rattle.c_model.specs.Layout.{Layout, is_complete, type_layout, layout_in, layout_of, repeated, before_others, member_layouts, layout_of_members, padded, in_a_row}
-use Rattle.c_types.specs.declared.extents.Extent.{Extent}
+use Rattle.c_model.specs.Layout.{Layout, is_complete, layout_in, layout_of, repeated, before_others, member_layouts, layout_of_members, padded, in_a_row}
 use Rattle.c_types.specs.declared.structs.Body.{Body}
 use Rattle.c_types.specs.declared.structs.Entry.{Entry}
 use Rattle.c_types.specs.Extents.{kept}

@@ -1,5 +1,5 @@
 -- Lists of types of which one is empty.
-use Rattle.std.proofs.Common.{◌≡◌, ℕ, zero, suc, ◌+◌, ◌<◌, ◌≤◌, Bool, false, true, List, [], ◌∷◌, length, arith, refl}
+use Rattle.std.proofs.Common.{◌≡◌, ◌≤◌, false, List, [], ◌∷◌, length, arith, refl}
 use Rattle.c_model.specs.Types as t
 use Rattle.c_model.specs.Compatible as m
 

@@ -1,5 +1,5 @@
 -- Offsets of members.
-use Rattle.std.proofs.Common.{◌≡◌, ℕ, zero, suc, ◌+◌, ◌-◌, ◌%◌, ◌≤◌, ◌<◌, min, max, List, [], ◌∷◌, length, take, get_or, Option, Some, None, is_some, slice_get, IsTrue, arith, refl, sym, ◌∙◌, ap, ap₂, subst, if◌then◌else◌, nat_le}
+use Rattle.std.proofs.Common.{◌≡◌, ℕ, zero, suc, ◌≤◌, ◌<◌, List, [], ◌∷◌, length, take, get_or, Option, Some, None, is_some, slice_get, arith, refl, sym, ◌∙◌, ap, ap₂, if◌then◌else◌}
 use Rattle.std.specs.Option.{option_map, option_and_then}
 use Rattle.std.specs.List.{fold}
 use Rattle.std.specs.Int.{next_multiple_of}

@@ -1,5 +1,5 @@
 -- Members in a row, as a loop goes over them.
-use Rattle.std.proofs.Common.{◌≡◌, ℕ, ◌+◌, ◌≤◌, ◌<◌, max, List, [], ◌∷◌, drop, drop-cons, add-one, get_or, length, Option, Some, None, arith, refl, sym, ◌∙◌, ap, subst, suc}
+use Rattle.std.proofs.Common.{◌≡◌, ℕ, ◌+◌, ◌<◌, List, ◌∷◌, drop, drop-cons, add-one, get_or, length, Option, Some, None, arith, refl, sym, ◌∙◌, ap, subst, suc}
 use Rattle.std.proofs.lemmas.Option.{same_Some}
 use Rattle.std.specs.Option.{option_map}
 use Rattle.c_model.specs.Structures.{Member, Structure}

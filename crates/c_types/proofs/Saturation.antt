@@ -1,5 +1,5 @@
 -- Sizes that are kept up to the limit, and alignments.
-use Rattle.std.proofs.Common.{◌≡◌, ℕ, zero, suc, ◌+◌, ◌-◌, ◌*◌, ◌%◌, ◌≤◌, ◌<◌, min, max, List, [], ◌∷◌, Option, Some, None, IfSome, arith, refl, sym, ◌∙◌, ap, ap₂, subst, ⊎_elim, lit≤}
+use Rattle.std.proofs.Common.{◌≡◌, ℕ, zero, suc, ◌+◌, ◌*◌, ◌≤◌, ◌<◌, max, List, [], ◌∷◌, Option, Some, None, IfSome, arith, refl, sym, ◌∙◌, ap, subst, ⊎_elim, lit≤}
 use Rattle.std.proofs.Math.Nat.{suc-mul}
 use Rattle.std.proofs.lemmas.Bool.{cases_lt}
 use Rattle.std.specs.Option.{option_map}

@@ -1,8 +1,7 @@
 -- Values of the integer types are far from the ends of 128 bits.
-use Rattle.std.proofs.Common.{◌≡◌, ℕ, zero, suc, ◌+◌, ◌-◌, ◌*◌, ◌/◌, ◌^◌, ◌≤◌, ◌<◌, ℤ, pos, negsuc, neg_ℤ, ◌+ℤ◌, ◌-ℤ◌, ◌*ℤ◌, ◌≤ℤ◌, ◌<ℤ◌, Bool, true, false, IsTrue, Result, Ok, Err, ◌≢◌, ◌%◌, arith, refl, to_z, of_z, FitsSigned, unsigned_abs, int_div, int_rem, sym, ◌∙◌, ap, ap₂, subst, lit<, lit≤}
+use Rattle.std.proofs.Common.{◌≡◌, ℕ, zero, suc, ◌-◌, ◌*◌, ◌/◌, ◌^◌, ◌≤◌, ℤ, pos, negsuc, neg_ℤ, ◌+ℤ◌, ◌-ℤ◌, ◌*ℤ◌, ◌≤ℤ◌, ◌<ℤ◌, true, false, IsTrue, Result, Ok, Err, ◌%◌, arith, refl, to_z, of_z, FitsSigned, unsigned_abs, int_div, int_rem, sym, ◌∙◌, ap, ap₂, subst, lit<}
 use Rattle.std.proofs.lemmas.Int.{ints, to_z-of_z, fits_signed_mul, fits_signed_from_abs, quot_is, rem_is}
 use Rattle.std.proofs.Math.Nat.{div-le_self, mod-le, pow-le-pow_right}
-use Rattle.std.proofs.lemmas.Nat.{pow_pos}
 use Rattle.std.specs.Ordering.{int_eq}
 use Rattle.std.specs.Int.{w128, int_rem_euclid}
 use lib.Signed.{shr_z}

@@ -154,11 +154,15 @@ fn operation_line(
         Ok(made) => {
             let made_type = type_name(made.basic);
             let made_value = made.value;
-            format!(in alloc; "({left_type}) {left_value} {operator} ({right_type}) {right_value} = ({made_type}) {made_value}")
+            format!(in alloc;
+                "({left_type}) {left_value} {operator} ({right_type}) {right_value} = ({made_type}) {made_value}"
+            )
         }
         Err(fault) => {
             let name = fault_name(fault);
-            format!(in alloc; "({left_type}) {left_value} {operator} ({right_type}) {right_value} = {name}")
+            format!(in alloc;
+                "({left_type}) {left_value} {operator} ({right_type}) {right_value} = {name}"
+            )
         }
     }
 }
@@ -174,7 +178,12 @@ fn main(rt: HostRuntime) -> io::Result<()> {
     }
     for left in TYPES {
         for right in TYPES {
-            println!(rt; "{} with {} is {}", type_name(left), type_name(right), type_name(common(left, right)))?;
+            println!(rt;
+                "{} with {} is {}",
+                type_name(left),
+                type_name(right),
+                type_name(common(left, right))
+            )?;
         }
     }
     for op in OPERATORS {

@@ -1,4 +1,4 @@
-use Rattle.std.proofs.Common.{List, None, ◌∙◌, ap, take}
+use Rattle.std.proofs.Common.{List, ◌∙◌, ap}
 use Rattle.std.specs.Option.{option_map}
 use Rattle.c_model.specs.Types as t
 use Rattle.c_model.specs.Structures.{Member}

@@ -1,7 +1,5 @@
-use Rattle.std.proofs.Common.{refl, subst, sym, List, length, ap, ◌∙◌, arith}
-use Rattle.std.proofs.lemmas.List.{length-map}
+use Rattle.std.proofs.Common.{refl, subst, sym}
 use Rattle.c_types.specs.Tables.{IsTable}
-use Rattle.c_types.specs.declared.structs.Entry.{Entry}
 use Rattle.c_types.proofs.Kept.{table_push, count_kept}
 use Rattle.c_types.proofs.structs.Structs.add.Goals as goal
 

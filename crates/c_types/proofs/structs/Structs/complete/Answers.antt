@@ -1,4 +1,4 @@
-use Rattle.std.proofs.Common.{List, Some, None, ◌≡◌, ◌∙◌, ap}
+use Rattle.std.proofs.Common.{List, Some, ◌∙◌, ap}
 use Rattle.std.specs.Option.{option_map}
 use Rattle.c_model.specs.Structures as m
 use Rattle.c_model.specs.Layout as l
