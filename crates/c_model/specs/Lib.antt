@@ -1,5 +1,11 @@
 pub mod Operations
 pub mod Place
+pub mod Conversions
+pub mod Types
+pub mod Structures
+pub mod TypesCode
+pub mod Layout
+pub mod Compatible
 pub mod PpTokens
 pub mod Memory
 pub mod Run

@@ -11,3 +11,4 @@ pub mod numbers;
 pub mod outcomes;
 pub mod positions;
 pub mod tokens;
+pub mod types;

@@ -1,0 +1,6 @@
+use Rattle.std.proofs.lemmas.Nat.{or_lt}
+use Rattle.c_model.specs.Operations as m
+use Rattle.c_types.proofs.operations.any_bits.Goals as goal
+
+pub value_of-requires : goal.value_of-requires
+value_of-requires c = or_lt (m.width c.args.basic) c.bits_of.result c.bits_of-2.result c.bits_of.ensures.bound c.bits_of-2.ensures.bound
