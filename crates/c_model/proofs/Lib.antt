@@ -7,3 +7,4 @@ pub mod OutsideRelated
 pub mod SourceRelated
 pub mod StatementsRelated
 pub mod Turns
+pub mod OneFindings

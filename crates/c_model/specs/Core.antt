@@ -12,7 +12,8 @@ use Rattle.c_model.specs.declared.operators.StepSide.{StepSide}
 use Rattle.c_model.specs.declared.marks.Mark.{Mark}
 use Rattle.c_model.specs.declared.marks.Span.{Span}
 use Rattle.c_model.specs.declared.marks.Origin.{Origin}
-use Rattle.c_model.specs.Types.{CType, Structure}
+use Rattle.c_model.specs.Types.{CType}
+use Rattle.c_model.specs.Structures.{Structure}
 
 -- how an assignment gets its value: as it is, or by an operator that is done in a type
 pub data Assignment : Type 0 where

@@ -11,7 +11,8 @@ use Rattle.c_model.specs.declared.marks.Origin.{Origin}
 use Rattle.c_model.specs.declared.marks.Origin.TheVariants.{Written, Implied}
 use Rattle.c_model.specs.declared.types.Quals.{Quals}
 use Rattle.c_model.specs.Conversions.{is_comparison}
-use Rattle.c_model.specs.Types.{CType, typed, Form, Void, Integer, Enum, Pointer, Array, Function, form_of_type, Structure}
+use Rattle.c_model.specs.Types.{CType, typed, Form, Void, Integer, Enum, Pointer, Array, Function, form_of_type}
+use Rattle.c_model.specs.Structures.{Structure}
 use Rattle.c_model.specs.Layout.{size_of}
 use Rattle.c_model.specs.Shapes.{Shape, IntegerShape, PointerShape, StructShape}
 use Rattle.c_model.specs.Core as unit

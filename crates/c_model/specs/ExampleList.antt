@@ -6,7 +6,8 @@ use Rattle.c_model.specs.declared.operators.UnaryOp.TheVariants.{Not}
 use Rattle.c_model.specs.declared.marks.Origin.TheVariants.{Implied}
 use Rattle.c_model.specs.declared.types.Quals.{Quals}
 use Rattle.c_model.specs.declared.types.StructId.{StructId}
-use Rattle.c_model.specs.Types.{CType, typed, Void, Integer, Pointer, Array, Struct, Function as FunctionForm, types, Structure}
+use Rattle.c_model.specs.Types.{CType, typed, Void, Integer, Pointer, Array, Struct, Function as FunctionForm, types}
+use Rattle.c_model.specs.Structures.{Structure}
 use Rattle.c_model.specs.CoreTypes.{int_type, plain, no_quals}
 use Rattle.c_model.specs.Run.{Run, Event, Integer as IntegerArgument, StringAt, Took, Freed, Returned}
 use Rattle.c_model.specs.Core.{Core, Expr, Constant, Convert, Address, Unary, Lvalue, Arrow, Stat, If, While, For, no_expr, an_expr, no_stat, a_stat, Parameter, Text}

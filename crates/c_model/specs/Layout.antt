@@ -8,7 +8,8 @@ use Rattle.c_model.specs.declared.numbers.Basic.{Basic}
 use Rattle.c_model.specs.declared.numbers.Basic.TheVariants.{Bool as bool}
 use Rattle.c_model.specs.declared.types.StructId.{StructId}
 use Rattle.c_model.specs.Operations.{width}
-use Rattle.c_model.specs.Types.{CType, typed, Form, Void, Integer, Enum, Pointer, Array, Struct, Function, form_of_type, Member, Structure, members_of}
+use Rattle.c_model.specs.Types.{CType, typed, Form, Void, Integer, Enum, Pointer, Array, Struct, Function, form_of_type}
+use Rattle.c_model.specs.Structures.{Member, Structure, members_of}
 
 abbrev mutual
   -- the type is complete in the table: not void, a function, a structure without members yet, an

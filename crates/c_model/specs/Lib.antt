@@ -2,6 +2,7 @@ pub mod Operations
 pub mod Place
 pub mod Conversions
 pub mod Types
+pub mod Structures
 pub mod TypesCode
 pub mod Layout
 pub mod Compatible
@@ -74,3 +75,6 @@ pub mod FirstRow
 pub mod Verdict
 pub mod Words
 pub mod Answer
+pub mod FlowGraph
+pub mod PossibleState
+pub mod Findings

@@ -5,7 +5,8 @@ use Rattle.std.specs.Str.{bytes_eq}
 use Rattle.c_model.specs.declared.numbers.Basic.TheVariants.{Int, Char, UnsignedLong}
 use Rattle.c_model.specs.declared.types.Quals.{Quals}
 use Rattle.c_model.specs.declared.types.StructId.{StructId}
-use Rattle.c_model.specs.Types.{CType, typed, Form, Void, Integer, Enum, Pointer, Array, Struct, Function, Types, no_types, more_types, quals_of_type, Structure, members_of}
+use Rattle.c_model.specs.Types.{CType, typed, Form, Void, Integer, Enum, Pointer, Array, Struct, Function, Types, no_types, more_types, quals_of_type}
+use Rattle.c_model.specs.Structures.{Structure, members_of}
 use Rattle.c_model.specs.Compatible.{compatible}
 use Rattle.c_model.specs.Memory.{Value}
 use Rattle.c_model.specs.Outside.{Passed, Answering, NoAnswer, IntegerAnswer, HandleAnswer, OtherAnswer}

@@ -1,7 +1,8 @@
 -- What stays the same while a function of a unit runs, and its objects (ISO/IEC 9899:2024, 6.2.4, 6.7.11).
 use Rattle.std.specs.Prelude.{ℕ, ℤ, false, List, [], ◌∷◌, Option, Some, None}
 use Rattle.cake_base.specs.declared.places.Place.{Place}
-use Rattle.c_model.specs.Types.{CType, Structure}
+use Rattle.c_model.specs.Types.{CType}
+use Rattle.c_model.specs.Structures.{Structure}
 use Rattle.c_model.specs.Memory.{Numbered, Block, Global, Local, Outside, Scalar, Value, Contents, Memory, with_block, fresh}
 use Rattle.c_model.specs.Run.{Goes, Act}
 use Rattle.c_model.specs.CoreTypes.{size_in}

@@ -12,7 +12,8 @@ use Rattle.c_model.specs.declared.operators.StepSide.{StepSide}
 use Rattle.c_model.specs.declared.operators.StepSide.TheVariants.{Prefix, Postfix}
 use Rattle.c_model.specs.declared.marks.Mark.{Mark}
 use Rattle.c_model.specs.declared.outcomes.Cause.TheVariants.{Null as NullCause, Kind}
-use Rattle.c_model.specs.Types.{CType, typed, Form, Void, Pointer, Struct, form_of_type, Structure}
+use Rattle.c_model.specs.Types.{CType, typed, Form, Void, Pointer, Struct, form_of_type}
+use Rattle.c_model.specs.Structures.{Structure}
 use Rattle.c_model.specs.Layout.{member_offset}
 use Rattle.c_model.specs.Memory.{Scalar, Number, Null, Address, Code, Value, Missing, Single, Structure as StructureValue}
 use Rattle.c_model.specs.Loads.{value_at}

@@ -2,7 +2,8 @@
 use Rattle.std.specs.Prelude.{ℕ, zero, suc, ℤ, pos, Bool, true, List, [], ◌∷◌, Option, Some, None, if◌then◌else◌}
 use Rattle.cake_base.specs.declared.places.Place.{Place}
 use Rattle.c_model.specs.declared.outcomes.Cause.TheVariants.{BadCall, Null as NullCause}
-use Rattle.c_model.specs.Types.{CType, Form, Function, Types, form_of_type, Structure}
+use Rattle.c_model.specs.Types.{CType, Form, Function, Types, form_of_type}
+use Rattle.c_model.specs.Structures.{Structure}
 use Rattle.c_model.specs.Compatible.{compatible}
 use Rattle.c_model.specs.Memory.{Numbered, Local, Null, Code, Value}
 use Rattle.c_model.specs.Accesses.{store_to}

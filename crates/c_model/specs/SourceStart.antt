@@ -4,7 +4,8 @@
 use Rattle.std.specs.Prelude.{ℕ, ◌+◌, pos, Bool, true, false, List, [], ◌∷◌, ◌++◌, length, Option, Some, None, if◌then◌else◌}
 use Rattle.c_model.specs.declared.numbers.Basic.TheVariants.{Char}
 use Rattle.c_model.specs.declared.outcomes.Cause.TheVariants.{BadCall}
-use Rattle.c_model.specs.Types.{CType, typed, Pointer, Struct, Structure}
+use Rattle.c_model.specs.Types.{CType, typed, Pointer, Struct}
+use Rattle.c_model.specs.Structures.{Structure}
 use Rattle.c_model.specs.Operations.{convert}
 use Rattle.c_model.specs.Memory.{Numbered, Global, Outside, HandleOf, Number, Address, Holds, Cell, Contents, Memory, fresh, zeroed}
 use Rattle.c_model.specs.Run.{Act, ◌▷◌, just, ends, Undefined}

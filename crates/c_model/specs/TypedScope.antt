@@ -4,7 +4,8 @@ use Rattle.std.specs.Prelude.{ℕ, ◌==◌, nat_lt, Bool, true, false, ◌&&◌
 use Rattle.std.specs.List.{list_any}
 use Rattle.c_model.specs.declared.numbers.BinOp.{BinOp}
 use Rattle.c_model.specs.declared.numbers.BinOp.TheVariants.{Add, Sub}
-use Rattle.c_model.specs.Types.{CType, typed, Form, Pointer, Array, Struct, Function, Types, no_types, more_types, form_of_type, quals_of_type, Member, Structure, members_of}
+use Rattle.c_model.specs.Types.{CType, typed, Form, Pointer, Array, Struct, Function, Types, no_types, more_types, form_of_type, quals_of_type}
+use Rattle.c_model.specs.Structures.{Member, Structure, members_of}
 use Rattle.c_model.specs.Layout.{is_complete}
 use Rattle.c_model.specs.CoreTypes.{type_of, object_type, is_pointer, is_void, pointee}
 use Rattle.c_model.specs.SameTypes.{same_type, same_value_type}

@@ -1,6 +1,5 @@
--- The types of the language (ISO/IEC 9899:2024, 6.2.5), and the structures of a unit (6.7.3.2).
-use Rattle.std.specs.Prelude.{ℕ, ◌+◌, Bool, List, [], ◌∷◌, Option, Some, None, slice_get}
-use Rattle.cake_base.specs.declared.places.Place.{Place}
+-- The types of the language (ISO/IEC 9899:2024, 6.2.5).
+use Rattle.std.specs.Prelude.{ℕ, ◌+◌, Bool, List, [], ◌∷◌, Option}
 use Rattle.c_model.specs.declared.numbers.Basic.{Basic}
 use Rattle.c_model.specs.declared.types.Quals.{Quals}
 use Rattle.c_model.specs.declared.types.StructId.{StructId}
@@ -54,26 +53,3 @@ abbrev mutual
   pub types_nodes : Types → ℕ
   types_nodes no_types = 0
   types_nodes (more_types t ts) = 1 + type_nodes t + types_nodes ts
-
--- a member of a structure, with the place of its name
-pub record Member : Type 0 where
-  pub name : List ℕ
-  pub ty : CType
-  pub place : Place
-
--- a structure type: its tag or none, whether it stands at file scope, the place of its word
--- `struct`, and its members, or none while it is incomplete
-pub record Structure : Type 0 where
-  pub tag : Option (List ℕ)
-  pub outer : Bool
-  pub place : Place
-  pub members : Option (List Member)
-
--- the members of a structure that is there
-abbrev pub members_in : Option Structure → Option (List Member)
-members_in None = None
-members_in (Some s) = s.members
-
--- the members of a structure of a table, or none where it is incomplete or not there
-abbrev pub members_of : List Structure → StructId → Option (List Member)
-members_of structs s = members_in (slice_get structs s.0)

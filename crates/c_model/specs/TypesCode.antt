@@ -7,7 +7,8 @@ use Rattle.cake_base.specs.declared.places.Place.{Place}
 use Rattle.c_model.specs.declared.numbers.Basic.{Basic}
 use Rattle.c_model.specs.declared.numbers.Basic.TheVariants as basic
 use Rattle.c_model.specs.declared.types.Quals.{Quals}
-use Rattle.c_model.specs.Types.{CType, typed, Form, Void, Integer, Enum, Pointer, Array, Struct, Function, Types, no_types, more_types, Member, Structure}
+use Rattle.c_model.specs.Types.{CType, typed, Form, Void, Integer, Enum, Pointer, Array, Struct, Function, Types, no_types, more_types}
+use Rattle.c_model.specs.Structures.{Member, Structure}
 
 -- what can be had back has a code of its own
 pub one_to_one : {A : Type 0} (put : A → Gv) (get : Gv → A) → ((x : A) → get (put x) ≡ x) → (x y : A) → put x ≡ put y → x ≡ y

@@ -6,6 +6,7 @@
 
 pub mod examples;
 pub mod first_tokens;
+pub mod flow;
 pub mod laws;
 pub mod marks;
 pub mod memory_examples;

@@ -1,8 +1,7 @@
 -- Values of the integer types are far from the ends of 128 bits.
-use Rattle.std.proofs.Common.{◌≡◌, ℕ, zero, suc, ◌+◌, ◌-◌, ◌*◌, ◌/◌, ◌^◌, ◌≤◌, ◌<◌, ℤ, pos, negsuc, neg_ℤ, ◌+ℤ◌, ◌-ℤ◌, ◌*ℤ◌, ◌≤ℤ◌, ◌<ℤ◌, Bool, true, false, IsTrue, Result, Ok, Err, ◌≢◌, ◌%◌, arith, refl, to_z, of_z, FitsSigned, unsigned_abs, int_div, int_rem, sym, ◌∙◌, ap, ap₂, subst, lit<, lit≤}
+use Rattle.std.proofs.Common.{◌≡◌, ℕ, zero, suc, ◌-◌, ◌*◌, ◌/◌, ◌^◌, ◌≤◌, ℤ, pos, negsuc, neg_ℤ, ◌+ℤ◌, ◌-ℤ◌, ◌*ℤ◌, ◌≤ℤ◌, ◌<ℤ◌, true, false, IsTrue, Result, Ok, Err, ◌%◌, arith, refl, to_z, of_z, FitsSigned, unsigned_abs, int_div, int_rem, sym, ◌∙◌, ap, ap₂, subst, lit<}
 use Rattle.std.proofs.lemmas.Int.{ints, to_z-of_z, fits_signed_mul, fits_signed_from_abs, quot_is, rem_is}
 use Rattle.std.proofs.Math.Nat.{div-le_self, mod-le, pow-le-pow_right}
-use Rattle.std.proofs.lemmas.Nat.{pow_pos}
 use Rattle.std.specs.Ordering.{int_eq}
 use Rattle.std.specs.Int.{w128, int_rem_euclid}
 use lib.Signed.{shr_z}
@@ -216,7 +215,7 @@ unsigned_case t a b n v s h k e f w g =
     let left : unsigned_abs (passed a) ≡ unsigned_abs a = ap unsigned_abs (back t a h) in
     let right : unsigned_abs (passed b) ≡ unsigned_abs b = ap unsigned_abs (back t b k) in
     let bits : (unsigned_abs (passed a) * unsigned_abs (passed b)) % unsigned_abs (passed n) ≡ (unsigned_abs a * unsigned_abs b) % (2 ^ m.width t) =
-      ap₂ (λ (x y : ℕ). x % y) (ap₂ (λ (x y : ℕ). x * y) left right) modulus in
+    ap₂ (λ (x y : ℕ). x % y) (ap₂ (λ (x y : ℕ). x * y) left right) modulus in
     let product : pos (unsigned_abs a) *ℤ pos (unsigned_abs b) ≡ a *ℤ b = ap₂ (λ (x y : ℤ). x *ℤ y) (sym (unsigned_is t a s h)) (sym (unsigned_is t b s k)) in
     back t v g ∙ w ∙ ap (m.value_of t) (bits ∙ residue (unsigned_abs a) (unsigned_abs b) (2 ^ m.width t) ∙ ap (m.bits_of t) product)
 

@@ -1,12 +1,23 @@
 //! Types, their layout and compatibility, and the conversions of and operations on integers.
 #![tactic(auto)]
 
+mod compat;
+mod extents;
 mod integers;
+mod layout;
+mod members;
 mod operations;
+mod structs;
+#[cfg(test)]
+mod tests;
 mod types;
 
 pub use c_model::numbers::{Basic, BinOp, Const};
 pub use c_model::types::{Quals, StructId};
+pub use compat::compatible;
 pub use integers::{common, fits, highest, is_signed, lowest, promoted, width};
+pub use layout::{align_of, is_complete, member_offset, size_of};
+pub use members::Members;
 pub use operations::{OpFault, const_op, convert};
+pub use structs::Structs;
 pub use types::{CType, TypeForm, TypeList};

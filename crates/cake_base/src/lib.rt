@@ -6,6 +6,8 @@ mod memory;
 mod outside;
 mod places;
 mod rules;
+#[cfg(test)]
+mod tests;
 mod texts;
 
 pub use memory::{MemFiles, MemSink};

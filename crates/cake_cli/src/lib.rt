@@ -10,6 +10,8 @@ mod report;
 mod scanner;
 mod spelling;
 mod status;
+#[cfg(test)]
+mod tests;
 mod tokens;
 mod words;
 

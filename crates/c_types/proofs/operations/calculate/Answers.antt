@@ -20,4 +20,3 @@ returns-in-ShiftLeft-clause-fits c = rw c.in-ShiftLeft.is c.shift_left.ensures.f
 
 pub returns-in-ShiftRight-clause-fits : goal.returns-in-ShiftRight-clause-fits
 returns-in-ShiftRight-clause-fits c = rw c.in-ShiftRight.is c.shift_right.ensures.fits
-

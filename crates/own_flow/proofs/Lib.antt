@@ -1,0 +1,13 @@
+pub mod BitLaws
+pub mod ChainLaws
+pub mod NodeLaws
+pub mod Growth
+pub mod Grew
+pub mod EffectLaws
+pub mod Crossing
+pub mod Following
+pub mod Least
+pub mod Total
+pub mod Exploring
+pub mod RankLaws
+pub mod FindingLaws
