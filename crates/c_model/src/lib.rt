@@ -6,4 +6,5 @@
 
 pub mod numbers;
 pub mod outcomes;
+pub mod steps;
 pub mod tokens;
