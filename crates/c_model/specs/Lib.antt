@@ -3,3 +3,8 @@ pub mod JoinedLines
 pub mod PpSteps
 pub mod PpTokens
 pub mod Vocabulary
+pub mod Digits
+pub mod IntegerConstants
+pub mod FloatingConstants
+pub mod Characters
+pub mod CTokens

@@ -35,3 +35,22 @@ pub struct CTok {
     pub kind: CKind,
     pub place: Place,
 }
+
+/// The rules of the family L that a single token can break.
+#[derive(Clone, Copy, Debug, PartialEq, Eq)]
+pub enum TokenRule {
+    /// L02: a string or character constant that isn't ended.
+    NotEnded,
+    /// L03: a character constant of none or of several characters.
+    NotOneCharacter,
+    /// L04: an escape sequence that is none of C, or whose value is no byte.
+    BadEscape,
+    /// L05: a malformed number or suffix.
+    MalformedNumber,
+    /// L06: an integer constant that fits no type.
+    FitsNoType,
+    /// L07: a floating constant.
+    Floating,
+    /// L08: a literal with a prefix, or a stray character.
+    Stray,
+}

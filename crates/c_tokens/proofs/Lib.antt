@@ -3,3 +3,6 @@ pub mod TableLaws
 pub mod CellLaws
 pub mod UnendedLaws
 pub mod TextLaws
+pub mod NumberLaws
+pub mod DigitLaws
+pub mod FittingLaws

@@ -10,7 +10,7 @@ abbrev of_length : ℕ → List (List ℕ) → List (List ℕ)
 of_length n [] = []
 of_length n (entry ∷ table) = if length entry == n then entry ∷ of_length n table else of_length n table
 
-other_length : (entry spelling : List ℕ) → (length entry == length spelling) ≡ false → bytes_eq entry spelling ≡ false
+pub other_length : (entry spelling : List ℕ) → (length entry == length spelling) ≡ false → bytes_eq entry spelling ≡ false
 other_length entry spelling differs = decided (bytes_eq entry spelling) refl
   where
     decided : (b : Bool) → bytes_eq entry spelling ≡ b → b ≡ false

@@ -1,15 +1,21 @@
 //! The preprocessing tokens of a text, and the tokens of C that they are converted into.
 #![tactic(auto)]
 
+mod characters;
 mod cursor;
+mod digits;
 mod errors;
+mod floats;
+mod integers;
 mod lists;
 mod pp_token;
 mod punctuators;
 mod scan;
+mod slices;
 mod steps;
 mod text;
 mod unended;
+mod words;
 
 pub use c_model::tokens::{CKind, CTok, PpKind};
 pub use errors::TokenError;
