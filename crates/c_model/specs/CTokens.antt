@@ -1,5 +1,5 @@
 -- The tokens of C (ISO/IEC 9899:2024, 5.1.1.2 phases 6 and 7, 6.4).
-use Rattle.std.specs.Prelude.{ℕ, ◌+◌, ◌-◌, Bool, true, false, not, ◌&&◌, ◌||◌, ◌==◌, nat_lt, if◌then◌else◌, List, [], ◌∷◌, ◌++◌, drop, Option, Some, None, is_some, Result, Ok, Err, ℤ, pos, ◌-ℤ◌}
+use Rattle.std.specs.Prelude.{ℕ, Bool, true, false, not, ◌&&◌, nat_lt, if◌then◌else◌, List, [], ◌∷◌, ◌++◌, drop, Option, Some, None, is_some, Result, Ok, Err, ℤ, pos, ◌-ℤ◌}
 use Rattle.std.specs.Char.{is_ascii_digit}
 use Rattle.cake_base.specs.declared.places.Place.{Place}
 use Rattle.cake_base.specs.declared.rules.Fault.{Fault}
@@ -44,11 +44,15 @@ numbered (Some number) = Ok (kind_of.Punct number)
 abbrev pub punctuator_token : List ℕ → Result CKind TokenRule
 punctuator_token text = numbered (punctuator_number text)
 
--- a number that is no integer constant is a floating constant or malformed
+-- a malformed number may be a floating constant
+abbrev pub malformed_or_floating : Bool → TokenRule → TokenRule
+malformed_or_floating floating MalformedNumber = if floating then Floating else MalformedNumber
+malformed_or_floating floating rule = rule
+
+-- a constant, or the rule that its text breaks
 abbrev pub unless_floating : Bool → Result Const TokenRule → Result CKind TokenRule
 unless_floating floating (Ok constant) = Ok (kind_of.Integer constant)
-unless_floating floating (Err FitsNoType) = Err FitsNoType
-unless_floating floating (Err rule) = if floating then Err Floating else Err MalformedNumber
+unless_floating floating (Err rule) = Err (malformed_or_floating floating rule)
 
 abbrev pub number_token : List ℕ → Result CKind TokenRule
 number_token text = unless_floating (is_floating text) (integer_constant text)

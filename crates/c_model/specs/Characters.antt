@@ -1,8 +1,8 @@
 -- The characters of strings and character constants (ISO/IEC 9899:2024, 6.4.4.5, 6.4.5).
-use Rattle.std.specs.Prelude.{ℕ, zero, suc, ◌+◌, ◌-◌, Bool, true, false, ◌&&◌, ◌||◌, ◌==◌, nat_le, min, if◌then◌else◌, List, [], ◌∷◌, take, drop, length, slice_index, Option, Some, None, Result, Ok, Err}
+use Rattle.std.specs.Prelude.{ℕ, zero, suc, ◌-◌, false, ◌||◌, ◌==◌, nat_le, min, if◌then◌else◌, List, [], ◌∷◌, take, length, Option, Some, None}
 use Rattle.std.specs.List.{prefix_len}
 use Rattle.c_model.specs.Digits.{is_digit_of, value_from}
-use Rattle.c_model.specs.PpSteps.{closing, prefix_length}
+use Rattle.c_model.specs.PpSteps.{closing}
 
 -- a value that is a byte
 abbrev pub as_byte : ℕ → Option ℕ

@@ -1,5 +1,5 @@
 -- Integer constants, their values and their types (ISO/IEC 9899:2024, 6.4.4.2).
-use Rattle.std.specs.Prelude.{◌≡◌, ℕ, ◌+◌, Bool, true, false, not, ◌&&◌, ◌||◌, ◌==◌, if◌then◌else◌, List, [], ◌∷◌, take, drop, slice_index, Option, Some, None, Result, Ok, Err, ℤ, pos, refl}
+use Rattle.std.specs.Prelude.{◌≡◌, ℕ, Bool, true, false, not, ◌&&◌, ◌||◌, ◌==◌, if◌then◌else◌, List, [], ◌∷◌, take, drop, slice_index, Option, Some, None, Result, Ok, Err, ℤ, pos, refl}
 use Rattle.std.specs.List.{prefix_len}
 use Rattle.c_model.specs.declared.constants.Base.{Base}
 use Rattle.c_model.specs.declared.constants.Base.TheVariants.{Decimal, Octal, Hexadecimal, Binary}

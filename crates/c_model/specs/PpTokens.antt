@@ -7,7 +7,6 @@ use Rattle.cake_base.specs.declared.rules.Fault.{Fault}
 use Rattle.c_model.specs.declared.steps.Cell.{Cell}
 use Rattle.c_model.specs.declared.steps.LinePart.{LinePart}
 use Rattle.c_model.specs.declared.steps.LinePart.TheVariants.{Start, Hash, Include, Rest}
-use Rattle.c_model.specs.declared.steps.Step.{Step}
 use Rattle.c_model.specs.declared.steps.Step.TheVariants.{LineEnd, Blank, Token, OpenComment}
 use Rattle.c_model.specs.declared.tokens.PpKind.{PpKind}
 use Rattle.c_model.specs.JoinedLines.{bytes, cells_from}

@@ -1,5 +1,5 @@
 -- The words and the punctuators of the grammar, and their numbers (ISO/IEC 9899:2024, 6.4.2 and 6.4.7).
-use Rattle.std.specs.Prelude.{ℕ, ◌+◌, Bool, true, false, ◌||◌, List, [], ◌∷◌, ◌++◌, Option, Some, None, if◌then◌else◌, codes}
+use Rattle.std.specs.Prelude.{ℕ, ◌+◌, Bool, false, ◌||◌, List, [], ◌∷◌, ◌++◌, Option, Some, None, if◌then◌else◌, codes}
 use Rattle.std.specs.Str.{bytes_eq}
 
 -- the words of the grammar, in the order in which they first stand in its table

@@ -1,11 +1,10 @@
 -- No type holds a value past 64 bits.
-use Rattle.std.proofs.Common.{◌≡◌, ℕ, ◌^◌, ◌<◌, ◌≤◌, min, Bool, true, false, ◌&&◌, inl, inr, if◌then◌else◌, List, [], ◌∷◌, length, drop, get_or, suc, drop-cons, Result, Ok, Err, Option, Some, None, ℤ, pos, refl, sym, ap, ◌∙◌, arith, int_le}
+use Rattle.std.proofs.Common.{◌≡◌, ℕ, ◌^◌, ◌<◌, ◌≤◌, min, Bool, true, false, ◌&&◌, inl, inr, if◌then◌else◌, List, [], ◌∷◌, length, drop, get_or, suc, drop-cons, Err, Option, Some, None, ℤ, pos, refl, sym, ap, ◌∙◌, arith, int_le}
 use Rattle.c_model.specs.declared.numbers.Basic.{Basic}
 use Rattle.c_model.specs.declared.numbers.Basic.TheVariants.{Bool as bool, Char, SignedChar, UnsignedChar, Short, UnsignedShort, Int, Unsigned, Long, UnsignedLong, LongLong, UnsignedLongLong}
 use Rattle.c_model.specs.declared.numbers.Const.{Const}
 use Rattle.c_model.specs.declared.constants.Base.{Base}
 use Rattle.c_model.specs.declared.constants.Suffix.{Suffix}
-use Rattle.c_model.specs.declared.tokens.TokenRule.{TokenRule}
 use Rattle.c_model.specs.declared.tokens.TokenRule.TheVariants.{MalformedNumber}
 use Rattle.std.proofs.Math.Bool.{Bool-set}
 use Rattle.std.proofs.lemmas.Bool.Decides.{leb_tells}

@@ -6,3 +6,5 @@ pub mod TextLaws
 pub mod NumberLaws
 pub mod DigitLaws
 pub mod FittingLaws
+pub mod CharacterLaws
+pub mod StringLaws

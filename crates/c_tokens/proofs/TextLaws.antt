@@ -1,5 +1,5 @@
 -- The tokens of a text step by step: what stands at the front, then the tokens of the rest.
-use Rattle.std.proofs.Common.{◌≡◌, ℕ, zero, suc, ◌+◌, ◌-◌, ◌<◌, ◌≤◌, Bool, true, false, ◌&&◌, ◌==◌, List, [], ◌∷◌, ◌++◌, length, take, drop, Option, Some, None, Result, Ok, Err, refl, ap, sym, ◌∙◌, arith, append_assoc, length-append, cond}
+use Rattle.std.proofs.Common.{◌≡◌, ℕ, zero, suc, ◌+◌, ◌-◌, ◌≤◌, Bool, true, false, ◌&&◌, ◌==◌, List, [], ◌∷◌, ◌++◌, length, take, drop, Result, Ok, Err, refl, ap, sym, ◌∙◌, arith, append_assoc, length-append, cond}
 use Rattle.cake_base.specs.declared.rules.Fault.{Fault}
 use Rattle.c_model.specs.declared.steps.Cell.{Cell}
 use Rattle.c_model.specs.declared.steps.LinePart.{LinePart}

@@ -4,3 +4,4 @@ pub mod Unended
 pub mod Answers
 pub mod Numbered
 pub mod Values
+pub mod Pending

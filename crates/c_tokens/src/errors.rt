@@ -1,4 +1,5 @@
 //! Why no tokens are answered.
+use c_model::tokens::TokenRule;
 use cake_base::{Fault, NoMemory};
 use thiserror::Error;
 
@@ -30,5 +31,23 @@ impl From<NoMemory> for TokenError {
 
     fn from(_: NoMemory) -> TokenError {
         TokenError::NoMemory
+    }
+}
+
+/// The rule that a single token breaks, or the want of memory.
+#[derive(Debug, Drop)]
+pub enum Refusal {
+    Broken(TokenRule),
+    NoMemory,
+}
+
+impl From<NoMemory> for Refusal {
+    ghost use Rattle.std.specs.Prelude.{◌≡◌};
+    ghost use Rattle.c_tokens.specs.declared.errors.Refusal.TheVariants as refusal;
+
+    ghost from_gives = { λ _ e. e ≡ refusal.NoMemory };
+
+    fn from(_: NoMemory) -> Refusal {
+        Refusal::NoMemory
     }
 }

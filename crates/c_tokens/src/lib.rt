@@ -2,6 +2,7 @@
 #![tactic(auto)]
 
 mod characters;
+mod convert;
 mod cursor;
 mod digits;
 mod errors;
@@ -13,12 +14,15 @@ mod punctuators;
 mod scan;
 mod slices;
 mod steps;
+mod strings;
 mod text;
 mod unended;
 mod words;
 
 pub use c_model::tokens::{CKind, CTok, PpKind};
+pub use convert::c_token;
 pub use errors::TokenError;
 pub use lists::{CList, PpList};
 pub use pp_token::PpTok;
+pub use strings::join_strings;
 pub use text::pp_tokens;

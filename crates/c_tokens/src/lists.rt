@@ -99,6 +99,13 @@ impl CList {
         self.items.len()
     }
 
+    /// The tokens.
+    pub(crate) fn as_slice(&self) -> &[CTok]
+        ensures { result.now ≡ self.now }
+    {
+        self.items.as_slice()
+    }
+
     /// The token of this rank, counted from 0; none exactly where `at` isn't below the count.
     pub fn get(&self, at: usize) -> Option<&CTok>
         ensures { option_copied result ≡ slice_get self.now at }

@@ -1,5 +1,5 @@
 use Rattle.std.proofs.Common.{rules, arith, ◌≡◌, ◌∷◌, ◌∙◌, sym, ap, length, length-drop, length-append}
-use Rattle.c_tokens.proofs.TextLaws.{line_on, blank_on, token_on, comment_on}
+use Rattle.c_tokens.proofs.TextLaws.{line_on, blank_on, token_on}
 use Rattle.c_tokens.proofs.UnendedLaws.{knows_further}
 use Rattle.c_tokens.proofs.text.pp_tokens.Goals as goal
 

@@ -1,4 +1,4 @@
-use Rattle.std.proofs.Common.{◌≡◌, ◌<◌, ◌∙◌, arith, length}
+use Rattle.std.proofs.Common.{◌<◌, ◌∙◌, arith, length}
 use Rattle.c_tokens.proofs.CellLaws.{run_and_one_rest, run_and_one_text}
 use Rattle.c_tokens.proofs.text.take_text.Goals as goal
 

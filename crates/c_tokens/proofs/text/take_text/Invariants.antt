@@ -1,4 +1,4 @@
-use Rattle.std.proofs.Common.{◌≡◌, ◌++◌, ◌≤◌, drop, take}
+use Rattle.std.proofs.Common.{◌≡◌, ◌++◌, drop, take}
 use Rattle.c_model.specs.JoinedLines.{bytes}
 use Rattle.c_tokens.proofs.text.take_text.Given as goal
 

@@ -1,4 +1,4 @@
-use Rattle.std.proofs.Common.{◌≡◌, ℕ, ◌+◌, drop, List, ap, sym, ◌∙◌, refl, None, false}
+use Rattle.std.proofs.Common.{◌≡◌, ◌+◌, drop, ap, sym, ◌∙◌, false}
 use Rattle.std.specs.List.{prefix_len}
 use Rattle.c_model.specs.JoinedLines.{bytes}
 use Rattle.c_model.specs.PpSteps.{closing, is_in_line}

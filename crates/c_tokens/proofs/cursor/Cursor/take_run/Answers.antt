@@ -1,4 +1,3 @@
-use Rattle.std.proofs.Common.{◌≡◌}
 use Rattle.c_tokens.proofs.RunLaws.{run_taken}
 use Rattle.c_tokens.proofs.cursor.Cursor.take_run.Goals as goal
 
