@@ -1,5 +1,5 @@
 //! Characters and escape sequences of literals.
-ghost use Rattle.std.specs.Prelude.{◌≡◌, ◌≤◌, ◌<◌, ◌+◌, length, min, None, Some, MatchOption, option_map, suc};
+ghost use Rattle.std.specs.Prelude.{◌≡◌, ◌≤◌, ◌<◌, ◌+◌, length};
 ghost use Rattle.std.specs.List.{prefix_len};
 ghost use Rattle.c_model.specs.Characters as spec;
 ghost use Rattle.c_model.specs.Digits.{is_digit_of};
@@ -144,61 +144,6 @@ pub fn character_value(text: &[u8]) -> Option<u8>
                 escape_value(rest)
             } else {
                 Some(*b)
-            }
-        }
-    }
-}
-
-/// The length of a text up to and with the quote that ends it on its line.
-fn closing(quote: u8, text: &[u8]) -> Option<usize>
-    ensures value { result ≡ closing quote false text.now }
-    ensures bound { MatchOption result (Unit {0}) (λ n. (1 ≤ n) × (n ≤ length text.now)) }
-{
-    let mut escaped = false;
-    let mut n = 0;
-    for b in text {
-        if *b == b'\n' {
-            return None;
-        }
-        n += 1;
-        if !escaped && *b == quote {
-            return Some(n);
-        }
-        escaped = !escaped && *b == b'\\';
-    }
-    None
-}
-
-ghost use Rattle.std.specs.Prelude.{false, option_copied};
-ghost use Rattle.c_model.specs.PpSteps.{closing};
-
-/// The bytes before the quote that ends a text.
-fn inside(quote: u8, text: &[u8]) -> Option<&[u8]>
-    ensures { option_copied result ≡ spec.inside (closing quote false text.now) text.now }
-{
-    match closing(quote, text) {
-        None => None,
-        Some(n) => {
-            if n == text.len() {
-                Some(text.split_at(n - 1).0)
-            } else {
-                None
-            }
-        }
-    }
-}
-
-/// The bytes between the quotes of a literal that has no prefix; none where it is no such literal.
-pub fn content(quote: u8, text: &[u8]) -> Option<&[u8]>
-    ensures { option_copied result ≡ spec.content quote text.now }
-{
-    match text {
-        [] => None,
-        [b, rest @ ..] => {
-            if *b == quote {
-                inside(quote, rest)
-            } else {
-                None
             }
         }
     }

@@ -1,30 +1,23 @@
 //! The token of C that a preprocessing token is converted into.
-ghost use Rattle.std.specs.Prelude.{◌≡◌, ◌^◌, ◌<◌, IfOk, true, false};
+ghost use Rattle.std.specs.Prelude.{◌≡◌, [], ◌∷◌, Some};
+ghost use Rattle.c_model.specs.FloatingConstants.{is_floating};
 ghost use Rattle.c_model.specs.CTokens as spec;
 ghost use Rattle.c_model.specs.Characters.{characters};
-ghost use Rattle.c_model.specs.PpSteps.{prefix_length};
 ghost use Rattle.c_tokens.specs.Answers.{Answers, Gives};
 
-use crate::characters::{character_length, character_value, content};
+use crate::characters::{character_length, character_value};
 use crate::errors::{Refusal, TokenError};
 use crate::floats::is_floating;
 use crate::integers::{constant_in, integer_constant};
+use crate::literals::{content, is_quote, prefix_length};
 use crate::pp_token::PpTok;
 use crate::scan::{Class, is_in};
-use crate::slices::{behind, byte_at};
+use crate::slices::{behind, copied};
 use crate::words::{punctuator_number, word_number};
 use c_model::numbers::Basic;
 use c_model::tokens::{CKind, CTok, PpKind, TokenRule};
-use cake_base::{Bytes, Family, Fault, NoMemory, Rule};
+use cake_base::{Bytes, Family, Fault, Rule};
 use std::alloc::Global;
-
-fn copied(alloc: Global, text: &[u8]) -> Result<Bytes, NoMemory>
-    ensures { IfOk result (λ bytes. bytes ≡ text.now) }
-{
-    let mut bytes = Bytes::new(alloc);
-    bytes.push(text)?;
-    Ok(bytes)
-}
 
 fn are_word_bytes(text: &[u8]) -> bool
     ensures { result ≡ spec.are_word_bytes text.now }
@@ -86,37 +79,12 @@ fn malformed_or_floating(text: &[u8], rule: TokenRule) -> TokenRule
     }
 }
 
-ghost use Rattle.c_model.specs.FloatingConstants.{is_floating};
-
 fn number_token(text: &[u8]) -> Result<CKind, TokenRule>
     ensures { result ≡ spec.number_token text.now }
 {
     match integer_constant(text) {
         Ok(constant) => Ok(CKind::Integer(constant)),
         Err(rule) => Err(malformed_or_floating(text, rule)),
-    }
-}
-
-fn is_quote(b: u8) -> bool
-    ensures { result ≡ is_quote b }
-{
-    b == b'"' || b == b'\''
-}
-
-ghost use Rattle.c_model.specs.PpSteps.{is_quote};
-
-/// The length of the prefix L, u, U or u8 that stands directly before a quote.
-fn prefix_length(text: &[u8]) -> usize
-    ensures { result ≡ prefix_length text.now }
-{
-    let first = byte_at(text, 0);
-    let second = byte_at(text, 1);
-    if (first == b'L' || first == b'u' || first == b'U') && is_quote(second) {
-        1
-    } else if first == b'u' && second == b'8' && is_quote(byte_at(text, 2)) {
-        2
-    } else {
-        0
     }
 }
 
@@ -148,8 +116,6 @@ fn byte_constant(b: u8) -> Result<CKind, TokenRule>
         None => Err(TokenRule::FitsNoType),
     }
 }
-
-ghost use Rattle.std.specs.Prelude.{Some, ◌∷◌, []};
 
 /// The one character of a character constant.
 #[tactic(auto, using(crate::proofs::CharacterLaws::counts))]

@@ -1,5 +1,7 @@
 //! Integer constants.
-ghost use Rattle.std.specs.Prelude.{◌≡◌, ◌≤◌, ◌^◌, pos, length, true, false};
+ghost use Rattle.std.specs.Prelude.{◌≡◌, ◌≤◌, length, Some};
+ghost use Rattle.std.specs.List.{prefix_len};
+ghost use Rattle.c_model.specs.declared.constants.Base.TheVariants as Base;
 ghost use Rattle.c_model.specs.IntegerConstants as spec;
 ghost use Rattle.c_model.specs.Operations as operations;
 
@@ -221,9 +223,6 @@ fn digits_length(text: &[u8]) -> usize
     n
 }
 
-ghost use Rattle.std.specs.List.{prefix_len};
-ghost use Rattle.c_model.specs.declared.constants.Base.TheVariants as Base;
-
 /// The constant of these digits and this suffix.
 fn constant_of(base: Base, digits: &[u8], suffix: Suffix) -> Result<Const, TokenRule>
     ensures { result ≡ spec.constant_of base digits.now (Some suffix) }
@@ -237,8 +236,6 @@ fn constant_of(base: Base, digits: &[u8], suffix: Suffix) -> Result<Const, Token
         None => Err(TokenRule::FitsNoType),
     }
 }
-
-ghost use Rattle.std.specs.Prelude.{Some};
 
 /// The constant that a text is: L05 where it is none, L06 where its value fits no type of its
 /// suffix (ISO/IEC 9899:2024, 6.4.4.2).

@@ -9,6 +9,7 @@ mod errors;
 mod floats;
 mod integers;
 mod lists;
+mod literals;
 mod pp_token;
 mod punctuators;
 mod scan;

@@ -1,6 +1,7 @@
 //! A preprocessing token.
 ghost use Rattle.std.specs.Prelude.{◌≡◌, IfOk};
 
+use crate::slices::copied;
 use c_model::tokens::PpKind;
 use cake_base::{Bytes, NoMemory, Place};
 use std::alloc::Global;
@@ -52,8 +53,7 @@ impl PpTok {
     pub fn copy(&self, alloc: Global) -> Result<PpTok, NoMemory>
         ensures { IfOk result (λ t. t ≡ self.now) }
     {
-        let mut text = Bytes::new(alloc);
-        text.push(self.text.as_slice())?;
+        let text = copied(alloc, self.text.as_slice())?;
         Ok(PpTok {
             kind: self.kind,
             place: self.place,

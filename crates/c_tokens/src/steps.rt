@@ -5,17 +5,12 @@ ghost use Rattle.c_model.specs.PpSteps as spec;
 ghost use Rattle.c_tokens.specs.Unended.{Knows, Moves};
 
 use crate::cursor::Cursor;
+use crate::literals::is_quote;
 use crate::punctuators;
 use crate::scan::{Class, comment_end, header_end, is_in, number_rest, peek, skip, span};
 use crate::unended::{Unended, literal_length};
 use c_model::steps::{LinePart, Step};
 use c_model::tokens::PpKind;
-
-fn is_quote(b: u8) -> bool
-    ensures { result ≡ spec.is_quote b }
-{
-    b == b'"' || b == b'\''
-}
 
 /// The length of the prefix before a quote at the front, and the byte behind it.
 fn opening(from: &Cursor) -> (usize, u8)

@@ -5,6 +5,7 @@ ghost use Rattle.c_model.specs.declared.tokens.CKind.TheVariants as kind_of;
 ghost use Rattle.c_tokens.specs.Pending as pending_of;
 
 use crate::lists::CList;
+use crate::slices::copied;
 use c_model::tokens::{CKind, CTok};
 use cake_base::{Bytes, NoMemory, Place};
 use std::alloc::Global;
@@ -16,26 +17,18 @@ pub struct Pending {
     place: Place,
 }
 
-fn copied(alloc: Global, bytes: &Bytes) -> Result<Bytes, NoMemory>
-    ensures { IfOk result (λ copy. copy ≡ bytes.now) }
-{
-    let mut copy = Bytes::new(alloc);
-    copy.push(bytes.as_slice())?;
-    Ok(copy)
-}
-
 fn kind_copied(alloc: Global, kind: &CKind) -> Result<CKind, NoMemory>
     ensures { IfOk result (λ copy. copy ≡ kind.now) }
 {
     match kind {
         CKind::Word(number) => Ok(CKind::Word(*number)),
         CKind::Name(bytes) => {
-            let bytes = copied(alloc, bytes)?;
+            let bytes = copied(alloc, bytes.as_slice())?;
             Ok(CKind::Name(bytes))
         }
         CKind::Integer(constant) => Ok(CKind::Integer(*constant)),
         CKind::Text(bytes) => {
-            let bytes = copied(alloc, bytes)?;
+            let bytes = copied(alloc, bytes.as_slice())?;
             Ok(CKind::Text(bytes))
         }
         CKind::Punct(number) => Ok(CKind::Punct(*number)),
@@ -82,7 +75,7 @@ fn longer(
 {
     match pending {
         None => {
-            let bytes = copied(alloc, bytes)?;
+            let bytes = copied(alloc, bytes.as_slice())?;
             Ok(Pending { bytes, place })
         }
         Some(string) => {
