@@ -27,3 +27,6 @@ pub use lists::{CList, PpList};
 pub use pp_token::PpTok;
 pub use strings::join_strings;
 pub use text::pp_tokens;
+
+#[cfg(test)]
+mod tests;
