@@ -78,3 +78,11 @@ pub mod Answer
 pub mod FlowGraph
 pub mod PossibleState
 pub mod Findings
+pub mod JoinedLines
+pub mod PpSteps
+pub mod Vocabulary
+pub mod Digits
+pub mod IntegerConstants
+pub mod FloatingConstants
+pub mod Characters
+pub mod CTokens

@@ -4,6 +4,7 @@
 //! shares with them, and the laws of the definitions.
 #![tactic(auto)]
 
+pub mod constants;
 pub mod examples;
 pub mod first_tokens;
 pub mod flow;
@@ -15,5 +16,6 @@ pub mod operators;
 pub mod outcomes;
 pub mod positions;
 pub mod runs;
+pub mod steps;
 pub mod tokens;
 pub mod types;

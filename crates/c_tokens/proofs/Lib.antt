@@ -1,0 +1,10 @@
+pub mod RunLaws
+pub mod TableLaws
+pub mod CellLaws
+pub mod UnendedLaws
+pub mod TextLaws
+pub mod NumberLaws
+pub mod DigitLaws
+pub mod FittingLaws
+pub mod CharacterLaws
+pub mod StringLaws

@@ -1,0 +1,6 @@
+use Rattle.std.proofs.Common.{◌≡◌, drop}
+use Rattle.c_model.specs.IntegerConstants.{first_fitting}
+use Rattle.c_tokens.proofs.integers.first_fitting.Given as goal
+
+abbrev pub invariant-loop-basic : goal.invariant-loop-basic
+invariant-loop-basic l = first_fitting (drop l.basic-index l.types) l.value ≡ first_fitting l.types l.value

@@ -1,0 +1,32 @@
+//! The preprocessing tokens of a text, and the tokens of C that they are converted into.
+#![tactic(auto)]
+
+mod characters;
+mod convert;
+mod cursor;
+mod digits;
+mod errors;
+mod floats;
+mod integers;
+mod lists;
+mod literals;
+mod pp_token;
+mod punctuators;
+mod scan;
+mod slices;
+mod steps;
+mod strings;
+mod text;
+mod unended;
+mod words;
+
+pub use c_model::tokens::{CKind, CTok, PpKind};
+pub use convert::c_token;
+pub use errors::TokenError;
+pub use lists::{CList, PpList};
+pub use pp_token::PpTok;
+pub use strings::join_strings;
+pub use text::pp_tokens;
+
+#[cfg(test)]
+mod tests;
