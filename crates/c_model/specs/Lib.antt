@@ -1,3 +1,16 @@
 pub mod Operations
 pub mod PpTokens
 pub mod Vocabulary
+pub mod GrammarForm
+pub mod Terminals
+pub mod NameScopes
+pub mod Derivation
+pub mod FaultPlace
+pub mod Grammar
+pub mod SyntaxTree
+pub mod DecidedTable
+pub mod ParserWalk
+pub mod ParserTable
+pub mod ParserSets
+pub mod ParserTests
+pub mod Untested

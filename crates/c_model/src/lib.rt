@@ -4,6 +4,8 @@
 //! shares with them, and the laws of the definitions.
 #![tactic(auto)]
 
+pub mod grammar;
+pub mod grammar_laws;
 pub mod numbers;
 pub mod outcomes;
 pub mod tokens;

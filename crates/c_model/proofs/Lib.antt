@@ -1,0 +1,4 @@
+pub mod KindSets
+pub mod DecidedGrammar
+pub mod ParserDecided
+pub mod Forget
