@@ -218,10 +218,10 @@ module _ (T : Tables) (L : Language) (quiet : IsQuiet T L) (ok : (r : Rule) → 
   unique (Reads.a_word _) F c (Derives.a_word _) h = record { trees = refl; state = refl; place = refl }
   unique {f = rule r} (Reads.a_rule _ p) F c (Derives.a_rule {new = mid} {xs = xs} d) h =
       let q = unique p (T.follows r) (within_rule r) d (ahead_keeps r mid _ (within_mem T _ F (T.follows r) c h)) in
-      record { trees = ap (λ zs. L.node r zs ∷ []) q.trees; state = rw (q.trees, q.state) refl; place = q.place }
+      record { trees = ap (λ zs. L.node r zs ∷ []) q.trees; state = rw q.state refl; place = q.place }
   unique {f = rule r} (Reads.a_part _ p) F c (Derives.a_rule {new = mid} {xs = xs} d) h =
       let q = unique p (T.follows r) (within_rule r) d (ahead_keeps r mid _ (within_mem T _ F (T.follows r) c h)) in
-      record { trees = ap (λ zs. L.node r zs ∷ []) q.trees; state = rw (q.trees, q.state) refl; place = q.place }
+      record { trees = ap (λ zs. L.node r zs ∷ []) q.trees; state = rw q.state refl; place = q.place }
   unique Reads.nothing F c Derives.nothing h = record { trees = refl; state = refl; place = refl }
   unique {f = f then g} (Reads.both p p' e') F c (Derives.both d d' e) h =
       let q = unique p (leads T g F) (and_left _ (decided T g F) c) d (lead F d' h) in

@@ -4,13 +4,14 @@ use Rattle.std.specs.Prelude.{◌==◌, if◌then◌else◌}
 use Rattle.c_model.specs.declared.grammar.Rule.{Rule}
 use Rattle.c_model.specs.declared.grammar.Rule.TheVariants as r
 use Rattle.c_model.specs.declared.grammar.Terminal.{Terminal}
+use Rattle.c_model.specs.declared.grammar.Frame.{Frame}
 use Rattle.c_model.specs.GrammarForm.{mem}
 use Rattle.c_model.specs.DecidedTable.{table_decided, decided, within, apart, first, leads, nullable}
 use Rattle.c_model.specs.ParserWalk.{IsQuiet}
 use Rattle.c_model.specs.ParserTable.{table}
 use Rattle.c_model.specs.ParserSets.{firsts, follows, hollow, tables}
 use Rattle.c_model.specs.ParserTests.{parsed}
-use Rattle.c_model.specs.NameScopes.{Scopes, Frame, kind, close, leave, fresh, is_type, bracket_kind}
+use Rattle.c_model.specs.NameScopes.{Scopes, kind, close, leave, fresh, is_type, bracket_kind}
 
 pub checked : (rule : Rule) → table_decided tables rule (table rule) ≡ true
 unfolding table_decided decided within apart first leads nullable table firsts follows hollow mem

@@ -7,35 +7,10 @@ use Rattle.c_model.specs.declared.grammar.Act.TheVariants as act
 use Rattle.c_model.specs.declared.grammar.Rule.{Rule}
 use Rattle.c_model.specs.declared.grammar.Rule.TheVariants as r
 use Rattle.c_model.specs.declared.grammar.Terminal.{Terminal}
+use Rattle.c_model.specs.declared.grammar.Entry.{Entry}
+use Rattle.c_model.specs.declared.grammar.Reading.{Reading}
+use Rattle.c_model.specs.declared.grammar.Frame.{Frame}
 use Rattle.c_model.specs.Terminals as k
-
--- a declared name, and whether it is declared as a typedef name
-pub record Entry : Type 0 where
-  pub name : ℕ
-  pub is_type : Bool
-
--- what is known of the declaration that is being read
-pub record Reading : Type 0 where
-  -- its specifiers have the word `typedef`
-  pub is_typedef : Bool
-  -- the name in its declarator
-  pub name : ℕ
-  -- a typedef name that comes next is no type specifier of it: it has one, or a declarator has begun
-  pub typed : Bool
-  -- its declarator is that of a parameter
-  pub parameter : Bool
-  -- what comes next stands next to the declared or the missing name
-  pub near : Bool
-  -- a `*` stands before the name, in the same parentheses
-  pub pointer : Bool
-  -- the parameters in the list that stands next to the name
-  pub held : Option (List Entry)
-
--- what is as before at the end of a scope or of a part of a declarator: the number of names that are declared, and
--- the declaration that is being read
-pub record Frame : Type 0 where
-  pub count : ℕ
-  pub reading : Reading
 
 -- the names of the open scopes, the latest last; the declaration that is being read; the frames, the innermost first;
 -- the brackets that are open inside an attribute, the innermost first

@@ -4,9 +4,10 @@ use Rattle.c_model.specs.declared.grammar.Rule.TheVariants as r
 use Rattle.c_model.specs.declared.grammar.Test.{Test}
 use Rattle.c_model.specs.declared.grammar.Test.TheVariants as test
 use Rattle.c_model.specs.declared.grammar.Terminal.{Terminal}
+use Rattle.c_model.specs.declared.grammar.Entry.{Entry}
 use Rattle.c_model.specs.declared.grammar.Tree.{Tree}
 use Rattle.c_model.specs.declared.grammar.Tree.TheVariants as tree
-use Rattle.c_model.specs.NameScopes.{Scopes, Entry, kind, after, close}
+use Rattle.c_model.specs.NameScopes.{Scopes, kind, after, close}
 use Rattle.c_model.specs.Derivation.{Language}
 use Rattle.c_model.specs.Grammar.{grammar, is_part}
 

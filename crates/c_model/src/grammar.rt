@@ -21,6 +21,40 @@ pub enum Tree {
     Node(Rule, Items<Tree>),
 }
 
+/// A declared name, and whether it is declared as a typedef name (6.7.9).
+#[derive(Clone, Copy, Debug, PartialEq, Eq)]
+pub struct Entry {
+    pub name: u32,
+    pub is_type: bool,
+}
+
+/// What is known of the declaration that is being read (6.7).
+#[derive(Debug, Drop)]
+pub struct Reading {
+    /// Its specifiers have the word `typedef`.
+    pub is_typedef: bool,
+    /// The name in its declarator.
+    pub name: u32,
+    /// A typedef name that comes next is no type specifier of it: it has one, or a declarator has begun.
+    pub typed: bool,
+    /// Its declarator is that of a parameter.
+    pub parameter: bool,
+    /// What comes next stands next to the declared or the missing name.
+    pub near: bool,
+    /// A `*` stands before the name, in the same parentheses.
+    pub pointer: bool,
+    /// The parameters in the list that stands next to the name.
+    pub held: Option<Items<Entry>>,
+}
+
+/// What is as before at the end of a scope or of a part of a declarator: the number of names that are declared, and the
+/// declaration that is being read.
+#[derive(Debug, Drop)]
+pub struct Frame {
+    pub count: usize,
+    pub reading: Reading,
+}
+
 /// The nonterminals of the grammar (annex A.3), in the order of its table; behind `Balanced` those that the table adds.
 #[derive(Clone, Copy, Debug, PartialEq, Eq)]
 pub enum Rule {
