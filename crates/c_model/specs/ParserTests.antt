@@ -1,5 +1,6 @@
 -- What the parser asks of the tokens ahead, and the language of its own table.
 use Rattle.std.specs.Prelude.{ℕ, suc, ◌-◌, Bool, true, false, not, ◌&&◌, ◌||◌, ◌==◌, if◌then◌else◌, List, [], ◌∷◌}
+use Rattle.c_model.specs.declared.grammar.Rule.{Rule}
 use Rattle.c_model.specs.declared.grammar.Rule.TheVariants as r
 use Rattle.c_model.specs.declared.grammar.Test.{Test}
 use Rattle.c_model.specs.declared.grammar.Test.TheVariants as test
@@ -21,10 +22,14 @@ abbrev pub sees_attribute : List Terminal → Bool
 sees_attribute (t ∷ u ∷ ts) = t.kind == k.OpenBracket && u.kind == k.OpenBracket
 sees_attribute ts = false
 
--- the first token is of one of these kinds
-abbrev pub sees_one : List ℕ → Scopes → List Terminal → Bool
-sees_one kinds s [] = false
-sees_one kinds s (t ∷ ts) = mem (kind s t) kinds
+-- the first token may begin the nonterminal
+abbrev pub may_come : Rule → Scopes → List Terminal → Bool
+may_come rule s [] = false
+may_come rule s (t ∷ ts) = mem (kind s t) (firsts rule)
+
+abbrev pub sees_name : Scopes → List Terminal → Bool
+sees_name s [] = false
+sees_name s (t ∷ ts) = kind s t == k.Name
 
 -- what is behind the bracket that closes the first of the n that are open
 unfoldable pub past_brackets : ℕ → List Terminal → List Terminal
@@ -91,7 +96,7 @@ sees_comma_without kind (t ∷ ts) = t.kind == k.Comma && not (sees kind ts)
 sees_comma_without kind [] = false
 
 abbrev pub sees_enumerator : Scopes → List Terminal → Bool
-sees_enumerator s (t ∷ ts) = t.kind == k.Comma && sees_one (k.Name ∷ []) s ts
+sees_enumerator s (t ∷ ts) = t.kind == k.Comma && sees_name s ts
 sees_enumerator s [] = false
 
 abbrev pub sees_assertion : List Terminal → Bool
@@ -102,7 +107,7 @@ abbrev pub sees_attributes_alone : List Terminal → Bool
 sees_attributes_alone ts = sees_attribute ts && sees k.Semicolon (past_attributes 0 ts)
 
 abbrev pub specifies : Scopes → List Terminal → Bool
-specifies s ts = sees_one (firsts r.Specs) s (past_attributes 0 ts)
+specifies s ts = may_come r.Specs s (past_attributes 0 ts)
 
 abbrev pub sees_label : List Terminal → Bool
 sees_label ts = sees k.Case ts || sees k.Default ts
@@ -195,7 +200,7 @@ passes test.HasParameters s ts = has_parameters s.reading.held
 passes test.FunctionAhead s ts = sees_function s ts
 passes test.SpecifiersAhead s ts = not (sees_assertion ts || sees_attributes_alone ts)
 passes test.AttributeAhead s ts = sees_attribute ts
-passes test.TypeAhead s ts = sees_one (firsts r.Squals) s ts
+passes test.TypeAhead s ts = may_come r.Squals s ts
 passes test.BraceAhead s ts = sees k.OpenBrace ts
 passes test.EnumeratorsAhead s ts = has_enumerators s ts
 passes test.EnumeratorAhead s ts = sees_enumerator s ts
