@@ -1,10 +1,14 @@
 -- What the parser asks of the tokens ahead, and the language of its own table.
-use Rattle.std.specs.Prelude.{ℕ, suc, ◌-◌, Bool, true, false, not, ◌&&◌, ◌||◌, ◌==◌, if◌then◌else◌, List, [], ◌∷◌}
+use Rattle.std.specs.Prelude.{ℕ, ◌+◌, ◌-◌, Bool, true, false, not, ◌&&◌, ◌||◌, ◌==◌, if◌then◌else◌, List, [], ◌∷◌, Option, Some, None}
 use Rattle.c_model.specs.declared.grammar.Rule.{Rule}
 use Rattle.c_model.specs.declared.grammar.Rule.TheVariants as r
 use Rattle.c_model.specs.declared.grammar.Test.{Test}
 use Rattle.c_model.specs.declared.grammar.Test.TheVariants as test
 use Rattle.c_model.specs.declared.grammar.Terminal.{Terminal}
+use Rattle.c_model.specs.declared.grammar.Before.{Before}
+use Rattle.c_model.specs.declared.grammar.Before.TheVariants.{AtStart, BehindStar, BehindQualifier, Inside}
+use Rattle.c_model.specs.declared.grammar.Within.{Within}
+use Rattle.c_model.specs.declared.grammar.Within.TheVariants.{Between, BehindHead, BehindTag, BehindTypeof, Attribute, Group}
 use Rattle.c_model.specs.Terminals as k
 use Rattle.c_model.specs.GrammarForm.{mem}
 use Rattle.c_model.specs.NameScopes.{Scopes, kind, fresh, is_opening, is_closing, is_type}
@@ -34,60 +38,77 @@ sees_name s (t ∷ ts) = kind s t == k.Name
 -- what is behind the bracket that closes the first of the n that are open
 unfoldable pub past_brackets : ℕ → List Terminal → List Terminal
 past_brackets n [] = []
-past_brackets n (t ∷ ts) = if is_opening t.kind then past_brackets (suc n) ts else if is_closing t.kind then (if n == 1 then ts else past_brackets (n - 1) ts) else past_brackets n ts
+past_brackets n (t ∷ ts) = if is_opening t.kind then past_brackets (n + 1) ts else if is_closing t.kind then (if n == 1 then ts else past_brackets (n - 1) ts) else past_brackets n ts
 
 -- what is behind the attributes that come next, of which n brackets are open
 unfoldable pub past_attributes : ℕ → List Terminal → List Terminal
 past_attributes n [] = []
-past_attributes n (t ∷ ts) = if n == 0 && not (sees_attribute (t ∷ ts)) then t ∷ ts else if is_opening t.kind then past_attributes (suc n) ts else if is_closing t.kind then past_attributes (n - 1) ts else past_attributes n ts
+past_attributes n (t ∷ ts) = if n == 0 && not (sees_attribute (t ∷ ts)) then t ∷ ts else if is_opening t.kind then past_attributes (n + 1) ts else if is_closing t.kind then past_attributes (n - 1) ts else past_attributes n ts
 
--- `(` and the first token of a type name, which no type specifier precedes
+-- a type name begins with the token, where no type specifier precedes it
+abbrev pub begins_type : Scopes → Terminal → Bool
+begins_type s t = mem (kind (record s { reading = fresh }) t) (firsts r.Squals)
+
+-- `(` and the first token of a type name
 abbrev pub sees_type_name : Scopes → List Terminal → Bool
-sees_type_name s (t ∷ u ∷ ts) = t.kind == k.OpenParenthesis && mem (kind (record s { reading = fresh }) u) (firsts r.Squals)
+sees_type_name s (t ∷ u ∷ ts) = t.kind == k.OpenParenthesis && begins_type s u
 sees_type_name s ts = false
-
--- where a parameter's declarator stands: nothing of it is read, a `*` and its attributes, or also its qualifiers,
--- stand directly before, or so many brackets of an attribute are open
-pub data Before : Type 0 where
-  at_start : Bool → Before
-  behind_star : Before
-  behind_qualifier : Before
-  inside : ℕ → Before
 
 -- a typedef name there is the name of the declarator
 abbrev pub declares : Before → Bool
-declares (at_start typed) = typed
+declares (AtStart typed) = typed
 declares _ = true
 
+-- the token is the name of the declarator
 abbrev pub is_name : Before → Scopes → Terminal → Bool
 is_name before s t = t.kind == k.Name && (not (is_type s.entries t.name) || declares before)
-
-abbrev pub is_star : Before → Bool
-is_star behind_star = true
-is_star _ = false
-
-abbrev pub is_behind : Before → Bool
-is_behind (at_start _) = false
-is_behind _ = true
 
 abbrev pub is_qualifier : ℕ → Bool
 is_qualifier kind = mem kind (firsts r.Qual)
 
+-- the brackets that are open
+abbrev pub opened : Before → ℕ
+opened (Inside n) = n
+opened _ = 0
+
+-- behind a token inside an attribute
+abbrev pub inside_step : ℕ → ℕ → Before
+inside_step n kind = if is_opening kind then Inside (n + 1) else if not (is_closing kind) then Inside n else if n == 1 then BehindStar else Inside (n - 1)
+
+-- behind another token: `*`, `(`, a qualifier where a `*` stands before, or an attribute directly behind `*`
+abbrev pub outside_step : Bool → Bool → ℕ → Bool → Option Before
+outside_step is_behind is_star kind is_attribute =
+  if kind == k.Star then Some BehindStar
+  else if kind == k.OpenParenthesis then Some (AtStart false)
+  else if is_behind && is_qualifier kind then Some BehindQualifier
+  else if is_star && is_attribute then Some (Inside 1)
+  else None
+
+-- where what is behind a token of a declarator stands, unless the token is a name or begins something else; whether an
+-- attribute begins with it
+unfoldable pub declarator_step : Before → ℕ → Bool → Option Before
+declarator_step (Inside n) kind is_attribute = Some (inside_step n kind)
+declarator_step (AtStart typed) kind is_attribute = outside_step false false kind is_attribute
+declarator_step BehindStar kind is_attribute = outside_step true true kind is_attribute
+declarator_step BehindQualifier kind is_attribute = outside_step true false kind is_attribute
+
+abbrev pub goes_on : {A B : Type 0} → Option A → (A → B) → B → B
+goes_on (Some place) more found = more place
+goes_on None more found = found
+
 -- behind any `*`, attributes, qualifiers and `(` stands the name of a declarator, or the tokens end
 unfoldable pub names_declarator : Before → Scopes → List Terminal → Bool
 names_declarator before s [] = true
-names_declarator (inside n) s (t ∷ ts) = if is_opening t.kind then names_declarator (inside (suc n)) s ts else if is_closing t.kind then names_declarator (if n == 1 then behind_star else inside (n - 1)) s ts else names_declarator (inside n) s ts
-names_declarator before s (t ∷ ts) =
-  if t.kind == k.Star then names_declarator behind_star s ts
-  else if t.kind == k.OpenParenthesis then names_declarator (at_start false) s ts
-  else if is_behind before && is_qualifier t.kind then names_declarator behind_qualifier s ts
-  else if is_star before && sees_attribute (t ∷ ts) then names_declarator (inside 1) s ts
-  else is_name before s t
+names_declarator before s (t ∷ ts) = goes_on (declarator_step before t.kind (sees_attribute (t ∷ ts))) (λ next. names_declarator next s ts) (is_name before s t)
+
+-- an abstract declarator begins with a token of this kind, where no attribute does
+abbrev pub opens_abstract : ℕ → Bool → Bool
+opens_abstract kind no_attribute = kind == k.Star || kind == k.OpenParenthesis || kind == k.OpenBracket && no_attribute
 
 -- a `(` that opens an abstract declarator, and no list of parameters
 abbrev pub sees_abstract : List Terminal → Bool
-sees_abstract (t ∷ u ∷ []) = t.kind == k.OpenParenthesis && (u.kind == k.Star || u.kind == k.OpenParenthesis || u.kind == k.OpenBracket)
-sees_abstract (t ∷ u ∷ v ∷ ts) = t.kind == k.OpenParenthesis && (u.kind == k.Star || u.kind == k.OpenParenthesis || u.kind == k.OpenBracket && not (v.kind == k.OpenBracket))
+sees_abstract (t ∷ u ∷ []) = t.kind == k.OpenParenthesis && opens_abstract u.kind true
+sees_abstract (t ∷ u ∷ v ∷ ts) = t.kind == k.OpenParenthesis && opens_abstract u.kind (not (v.kind == k.OpenBracket))
 sees_abstract ts = false
 
 -- `,`, and no token of this kind behind it
@@ -115,80 +136,86 @@ sees_label ts = sees k.Case ts || sees k.Default ts
 abbrev pub sees_cast : Scopes → List Terminal → Bool
 sees_cast s ts = sees_type_name s ts && not (sees k.OpenBrace (past_brackets 0 ts))
 
--- where the specifiers of a declaration stand: between two, where a type specifier stands before or none; behind
--- `struct` or `enum` or behind its tag; behind `typeof`; or so many brackets are open, of an attribute or of others
-pub data Within : Type 0 where
-  between : Bool → Within
-  behind_head : Within
-  behind_tag : Within
-  behind_typeof : Within
-  attribute : ℕ → Within
-  group : ℕ → Within
-
--- an identifier is no typedef name, or a type specifier stands before it
-abbrev pub ends_specifiers : Bool → Scopes → Terminal → Bool
-ends_specifiers typed s t = typed || not (is_type s.entries t.name)
-
--- a word that is a specifier by itself
-abbrev pub single : ℕ → Bool
-single kind = mem kind (firsts r.Specs) && not (kind == k.Name)
+-- the brackets that are open
+abbrev pub within : Within → ℕ
+within (Attribute n) = n
+within (Group n) = n
+within _ = 0
 
 abbrev pub type_words : List ℕ
 type_words = k.Void ∷ k.Char ∷ k.Short ∷ k.Int ∷ k.Long ∷ k.Signed ∷ k.Unsigned ∷ k.Bool ∷ k.OldBool ∷ []
 
--- what is behind a specifier that is one token
+abbrev pub is_type_word : ℕ → Bool
+is_type_word kind = mem kind type_words
+
+-- behind a word of a specifier
 abbrev pub behind_word : Bool → ℕ → Within
 behind_word typed kind =
-  if kind == k.Struct || kind == k.Enum then behind_head
-  else if kind == k.Typeof || kind == k.TypeofUnqual then behind_typeof
-  else between (typed || mem kind type_words)
+  if kind == k.Struct || kind == k.Enum then BehindHead
+  else if kind == k.Typeof || kind == k.TypeofUnqual then BehindTypeof
+  else Between (typed || is_type_word kind)
+
+-- behind a word that begins a specifier, or `:`, or the end of the specifiers
+abbrev pub behind_specifier : Bool → ℕ → Option Within
+behind_specifier typed kind = if kind == k.Colon then Some (Between false) else if mem kind (firsts r.Specs) then Some (behind_word typed kind) else None
+
+-- behind the braces or the type of a struct or an enumeration
+abbrev pub behind_braces : ℕ → Option Within → Option Within
+behind_braces kind others = if kind == k.OpenBrace then Some (Group 1) else others
+
+-- behind what follows `struct` or `enum`
+abbrev pub head_step : ℕ → Option Within
+head_step kind = if kind == k.Name then Some BehindTag else if kind == k.OpenBracket then Some (Attribute 1) else behind_braces kind (behind_specifier true kind)
+
+-- between two specifiers: an identifier that is no typedef name, or stands behind a type specifier, ends them
+abbrev pub between_step : Bool → Scopes → Terminal → Option Within
+between_step typed s t = if t.kind == k.Name then (if typed || not (is_type s.entries t.name) then None else Some (Between true)) else behind_specifier typed t.kind
+
+abbrev pub brackets : Bool → ℕ → Within
+brackets is_attribute n = if is_attribute then Attribute n else Group n
+
+-- in brackets
+abbrev pub bracket_step : Bool → ℕ → ℕ → Within
+bracket_step is_attribute n kind =
+  if is_opening kind then brackets is_attribute (n + 1)
+  else if not (is_closing kind) then brackets is_attribute n
+  else if n == 1 then (if is_attribute then BehindHead else Between true)
+  else brackets is_attribute (n - 1)
+
+-- where what is behind a token among the specifiers of a declaration stands, unless they have ended before it
+unfoldable pub specifier_step : Within → Scopes → Terminal → Option Within
+specifier_step (Between typed) s t = between_step typed s t
+specifier_step BehindHead s t = head_step t.kind
+specifier_step BehindTag s t = if t.kind == k.Name then None else behind_braces t.kind (behind_specifier true t.kind)
+specifier_step BehindTypeof s t = if t.kind == k.OpenParenthesis then Some (Group 1) else None
+specifier_step (Attribute n) s t = Some (bracket_step true n t.kind)
+specifier_step (Group n) s t = Some (bracket_step false n t.kind)
 
 -- what is behind the specifiers
 unfoldable pub past_specifiers : Within → Scopes → List Terminal → List Terminal
-past_specifiers w s [] = []
-past_specifiers (between typed) s (t ∷ ts) =
-  if t.kind == k.Name then (if ends_specifiers typed s t then t ∷ ts else past_specifiers (between true) s ts)
-  else if t.kind == k.Colon then past_specifiers (between false) s ts
-  else if single t.kind then past_specifiers (behind_word typed t.kind) s ts
-  else t ∷ ts
-past_specifiers behind_head s (t ∷ ts) =
-  if t.kind == k.OpenBracket then past_specifiers (attribute 1) s ts
-  else if t.kind == k.Name then past_specifiers behind_tag s ts
-  else if t.kind == k.OpenBrace then past_specifiers (group 1) s ts
-  else if t.kind == k.Colon then past_specifiers (between false) s ts
-  else t ∷ ts
-past_specifiers behind_tag s (t ∷ ts) =
-  if t.kind == k.Name then t ∷ ts
-  else if t.kind == k.OpenBrace then past_specifiers (group 1) s ts
-  else if t.kind == k.Colon then past_specifiers (between false) s ts
-  else if single t.kind then past_specifiers (behind_word true t.kind) s ts
-  else t ∷ ts
-past_specifiers behind_typeof s (t ∷ ts) = if t.kind == k.OpenParenthesis then past_specifiers (group 1) s ts else t ∷ ts
-past_specifiers (attribute n) s (t ∷ ts) =
-  if is_opening t.kind then past_specifiers (attribute (suc n)) s ts
-  else if is_closing t.kind then past_specifiers (if n == 1 then behind_head else attribute (n - 1)) s ts
-  else past_specifiers (attribute n) s ts
-past_specifiers (group n) s (t ∷ ts) =
-  if is_opening t.kind then past_specifiers (group (suc n)) s ts
-  else if is_closing t.kind then past_specifiers (if n == 1 then between true else group (n - 1)) s ts
-  else past_specifiers (group n) s ts
+past_specifiers place s [] = []
+past_specifiers place s (t ∷ ts) = goes_on (specifier_step place s t) (λ next. past_specifiers next s ts) (t ∷ ts)
+
+-- a token of a declarator, outside brackets
+abbrev pub is_in_declarator : ℕ → Bool
+is_in_declarator kind = kind == k.Name || kind == k.Star || is_qualifier kind
+
+-- the token ends a declarator of which so many brackets are open
+abbrev pub ends_declarator : ℕ → ℕ → Bool
+ends_declarator n kind = n == 0 && not (kind == k.OpenParenthesis) && not (kind == k.OpenBracket) && not (is_in_declarator kind)
 
 -- what is behind the declarator, of which n brackets are open
 unfoldable pub past_declarator : ℕ → List Terminal → List Terminal
 past_declarator n [] = []
-past_declarator n (t ∷ ts) =
-  if n == 0 && t.kind == k.OpenBrace then t ∷ ts
-  else if is_opening t.kind then past_declarator (suc n) ts
-  else if is_closing t.kind then (if n == 0 then t ∷ ts else past_declarator (n - 1) ts)
-  else if n == 0 && not (t.kind == k.Name || t.kind == k.Star || is_qualifier t.kind) then t ∷ ts
-  else past_declarator n ts
+past_declarator n (t ∷ ts) = if ends_declarator n t.kind then t ∷ ts else if is_opening t.kind then past_declarator (n + 1) ts else if is_closing t.kind then past_declarator (n - 1) ts else past_declarator n ts
 
+-- behind attributes, specifiers and a declarator stands `{`
 abbrev pub sees_function : Scopes → List Terminal → Bool
-sees_function s ts = specifies s ts && sees k.OpenBrace (past_declarator 0 (past_specifiers (between false) s (past_attributes 0 ts)))
+sees_function s ts = specifies s ts && sees k.OpenBrace (past_declarator 0 (past_specifiers (Between false) s (past_attributes 0 ts)))
 
 -- behind the tag of an enumeration
 abbrev pub sees_enumerators : Scopes → List Terminal → Bool
-sees_enumerators s (t ∷ ts) = t.kind == k.OpenBrace || t.kind == k.Colon && sees k.OpenBrace (past_specifiers (between false) s ts)
+sees_enumerators s (t ∷ ts) = t.kind == k.OpenBrace || t.kind == k.Colon && sees k.OpenBrace (past_specifiers (Between false) s ts)
 sees_enumerators s [] = false
 
 abbrev pub has_enumerators : Scopes → List Terminal → Bool
@@ -206,7 +233,7 @@ passes test.EnumeratorsAhead s ts = has_enumerators s ts
 passes test.EnumeratorAhead s ts = sees_enumerator s ts
 passes test.ParameterAhead s ts = sees_comma_without k.Ellipsis ts
 passes test.ItemAhead s ts = sees_comma_without k.CloseBrace ts
-passes test.DeclaratorAhead s ts = names_declarator (at_start s.reading.typed) s ts
+passes test.DeclaratorAhead s ts = names_declarator (AtStart s.reading.typed) s ts
 passes test.AbstractAhead s ts = sees_abstract ts
 passes test.DeclarationAhead s ts = sees_assertion ts || sees_attributes_alone ts || specifies s ts
 passes test.LabelAhead s ts = sees_label (past_attributes 0 ts)

@@ -213,3 +213,33 @@ pub enum Test {
     /// `else` comes next.
     ElseAhead,
 }
+
+/// Where a token of a parameter's declarator stands, before its name.
+#[derive(Clone, Copy, Debug, PartialEq, Eq)]
+pub enum Before {
+    /// At the start, or behind `(`; a typedef name there is the declarator's, or a type specifier.
+    AtStart(bool),
+    /// Behind a `*` and its attributes.
+    BehindStar,
+    /// Behind a qualifier of a `*`.
+    BehindQualifier,
+    /// In an attribute of which so many brackets are open.
+    Inside(usize),
+}
+
+/// Where a token among the specifiers of a declaration stands.
+#[derive(Clone, Copy, Debug, PartialEq, Eq)]
+pub enum Within {
+    /// Between two specifiers; a type specifier stands before, or none.
+    Between(bool),
+    /// Behind `struct` or `enum`.
+    BehindHead,
+    /// Behind a tag.
+    BehindTag,
+    /// Behind `typeof` or `typeof_unqual`.
+    BehindTypeof,
+    /// In an attribute of which so many brackets are open.
+    Attribute(usize),
+    /// In brackets of which so many are open.
+    Group(usize),
+}

@@ -170,6 +170,19 @@ impl Names {
         }
     }
 
+    /// The kind of the token, where nothing is known yet of a declaration that is being read.
+    pub fn fresh_kind(&self, token: Terminal) -> u8
+        ensures { result ≡ spec.kind (record self.now { reading = spec.fresh }) token }
+    {
+        if token.kind != kinds::NAME {
+            self.bracket_kind(token.kind)
+        } else if self.names_type(token.name) {
+            kinds::TYPEDEF_NAME
+        } else {
+            kinds::NAME
+        }
+    }
+
     /// A token that is no part of specifiers or of a declarator.
     fn pass(&mut self)
         ensures { self.new ≡ record self.old { reading = spec.passed self.old.reading } }
