@@ -1,1 +1,3 @@
 pub mod TestSteps
+pub mod RuleWeights
+pub mod ReaderSteps

@@ -5,6 +5,7 @@ mod forms;
 mod lookahead;
 pub mod kinds;
 mod names;
+mod reader;
 mod sets;
 mod stack;
 
