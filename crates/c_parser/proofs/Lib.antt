@@ -1,3 +1,4 @@
 pub mod TestSteps
 pub mod RuleWeights
 pub mod ReaderSteps
+pub mod Parsed

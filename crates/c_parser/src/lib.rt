@@ -2,11 +2,13 @@
 #![tactic(auto)]
 
 mod forms;
-mod lookahead;
 pub mod kinds;
+mod lookahead;
 mod names;
+
 mod reader;
 mod sets;
 mod stack;
+mod unit;
 
-pub use names::Names;
+pub use unit::{Refusal, parse};

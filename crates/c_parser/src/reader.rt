@@ -138,3 +138,74 @@ fn inner_depth(rule: Rule, depth: usize) -> Option<usize>
     }
     if depth == 0 { None } else { Some(depth - 1) }
 }
+
+/// Reads what the form derives, and puts the trees behind the others.
+///
+/// It takes the choices of the table by the next token and by its tests, reads each token once, and opens at most
+/// `depth` parts inside each other. On a fault or a part too many `reader.rest` begins with the token where it stands.
+pub fn read(
+    alloc: Global,
+    reader: &mut Reader<'_>,
+    f: &Form,
+    depth: usize,
+    out: &mut Items<Tree>,
+) -> Result<(), Stop>
+    requires { IsDecided (form f.now) }
+    ensures { Told depth (form f.now) reader.old reader.new out.old out.new result }
+{
+    match f {
+        Form::Word(kinds, act) => reader.word(kinds, *act, out),
+        Form::Rule(rule) => match inner_depth(*rule, depth) {
+            None => Err(if goes_on(*rule, reader.ahead()) {
+                Stop::Deep
+            } else {
+                Stop::Fault
+            }),
+            Some(inside) => {
+                let mut inner = Items::new(alloc);
+                read(alloc, reader, body(*rule), inside, &mut inner)?;
+                reader.names.close(*rule)?;
+                out.push(Tree::Node(*rule, inner))?;
+                Ok(())
+            }
+        },
+        Form::Empty => Ok(()),
+        Form::Then(f, g) => {
+            read(alloc, reader, f, depth, out)?;
+            read(alloc, reader, g, depth, out)
+        }
+        Form::Or(f, g) => {
+            if goes_left(f, g, reader.ahead()) {
+                read(alloc, reader, f, depth, out)
+            } else {
+                read(alloc, reader, g, depth, out)
+            }
+        }
+        Form::Maybe(f) => {
+            if begins(f, reader.ahead()) {
+                read(alloc, reader, f, depth, out)
+            } else {
+                Ok(())
+            }
+        }
+        Form::Many(part) => {
+            while begins(part, reader.ahead()) {
+                read(alloc, reader, part, depth, out)?;
+            }
+            Ok(())
+        }
+        Form::When(test, f, g) => {
+            if passes(*test, &reader.names, reader.rest) {
+                read(alloc, reader, f, depth, out)
+            } else {
+                read(alloc, reader, g, depth, out)
+            }
+        }
+        Form::Loop(test, item) => {
+            while passes(*test, &reader.names, reader.rest) {
+                read(alloc, reader, item, depth, out)?;
+            }
+            Ok(())
+        }
+    }
+}
