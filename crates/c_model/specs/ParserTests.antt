@@ -167,9 +167,13 @@ behind_braces kind others = if kind == k.OpenBrace then Some (Group 1) else othe
 abbrev pub head_step : ℕ → Option Within
 head_step kind = if kind == k.Name then Some BehindTag else if kind == k.OpenBracket then Some (Attribute 1) else behind_braces kind (behind_specifier true kind)
 
--- between two specifiers: an identifier that is no typedef name, or stands behind a type specifier, ends them
-abbrev pub between_step : Bool → Scopes → Terminal → Option Within
-between_step typed s t = if t.kind == k.Name then (if typed || not (is_type s.entries t.name) then None else Some (Between true)) else behind_specifier typed t.kind
+-- between two specifiers: an identifier that is no typedef name, or stands behind a type specifier, ends them, and so
+-- does `{` where no enumeration with a type can take it
+abbrev pub between_step : Bool → Bool → Scopes → Terminal → Option Within
+between_step fixed typed s t =
+  if t.kind == k.Name then (if typed || not (is_type s.entries t.name) then None else Some (Between true))
+  else if fixed && t.kind == k.OpenBrace then Some (Group 1)
+  else behind_specifier typed t.kind
 
 abbrev pub brackets : Bool → ℕ → Within
 brackets is_attribute n = if is_attribute then Attribute n else Group n
@@ -183,18 +187,22 @@ bracket_step is_attribute n kind =
   else brackets is_attribute (n - 1)
 
 -- where what is behind a token among the specifiers of a declaration stands, unless they have ended before it
-unfoldable pub specifier_step : Within → Scopes → Terminal → Option Within
-specifier_step (Between typed) s t = between_step typed s t
-specifier_step BehindHead s t = head_step t.kind
-specifier_step BehindTag s t = if t.kind == k.Name then None else behind_braces t.kind (behind_specifier true t.kind)
-specifier_step BehindTypeof s t = if t.kind == k.OpenParenthesis then Some (Group 1) else None
-specifier_step (Attribute n) s t = Some (bracket_step true n t.kind)
-specifier_step (Group n) s t = Some (bracket_step false n t.kind)
+unfoldable pub specifier_step : Bool → Within → Scopes → Terminal → Option Within
+specifier_step fixed (Between typed) s t = between_step fixed typed s t
+specifier_step fixed BehindHead s t = head_step t.kind
+specifier_step fixed BehindTag s t = if t.kind == k.Name then None else behind_braces t.kind (behind_specifier true t.kind)
+specifier_step fixed BehindTypeof s t = if t.kind == k.OpenParenthesis then Some (Group 1) else None
+specifier_step fixed (Attribute n) s t = Some (bracket_step true n t.kind)
+specifier_step fixed (Group n) s t = Some (bracket_step false n t.kind)
 
--- what is behind the specifiers
-unfoldable pub past_specifiers : Within → Scopes → List Terminal → List Terminal
-past_specifiers place s [] = []
-past_specifiers place s (t ∷ ts) = goes_on (specifier_step place s t) (λ next. past_specifiers next s ts) (t ∷ ts)
+-- the `:` before the type of an enumeration
+abbrev pub is_type_colon : Within → ℕ → Bool
+is_type_colon place kind = within place == 0 && kind == k.Colon
+
+-- what is behind the specifiers; whether one of them is an enumeration with a type
+unfoldable pub past_specifiers : Bool → Within → Scopes → List Terminal → List Terminal
+past_specifiers fixed place s [] = []
+past_specifiers fixed place s (t ∷ ts) = goes_on (specifier_step fixed place s t) (λ next. past_specifiers (fixed || is_type_colon place t.kind) next s ts) (t ∷ ts)
 
 -- a token of a declarator, outside brackets
 abbrev pub is_in_declarator : ℕ → Bool
@@ -211,11 +219,11 @@ past_declarator n (t ∷ ts) = if ends_declarator n t.kind then t ∷ ts else if
 
 -- behind attributes, specifiers and a declarator stands `{`
 abbrev pub sees_function : Scopes → List Terminal → Bool
-sees_function s ts = specifies s ts && sees k.OpenBrace (past_declarator 0 (past_specifiers (Between false) s (past_attributes 0 ts)))
+sees_function s ts = specifies s ts && sees k.OpenBrace (past_declarator 0 (past_specifiers false (Between false) s (past_attributes 0 ts)))
 
 -- behind the tag of an enumeration
 abbrev pub sees_enumerators : Scopes → List Terminal → Bool
-sees_enumerators s (t ∷ ts) = t.kind == k.OpenBrace || t.kind == k.Colon && sees k.OpenBrace (past_specifiers (Between false) s ts)
+sees_enumerators s (t ∷ ts) = t.kind == k.OpenBrace || t.kind == k.Colon && sees k.OpenBrace (past_specifiers false (Between false) s ts)
 sees_enumerators s [] = false
 
 abbrev pub has_enumerators : Scopes → List Terminal → Bool

@@ -394,12 +394,16 @@ fn behind_head(kind: u8) -> Option<Within>
 }
 
 /// What is behind a token between two specifiers.
-fn between_step(typed: bool, names: &Names, token: Terminal) -> Option<Within>
-    ensures place { result ≡ spec.between_step typed names.now token }
-    ensures none { IfSome result (λ next. spec.within next ≡ 0) }
+fn between_step(fixed: bool, typed: bool, names: &Names, token: Terminal) -> Option<Within>
+    ensures place { result ≡ spec.between_step fixed typed names.now token }
+    ensures grown { IfSome result (λ next. spec.within next ≤ 1) }
 {
     if token.kind != kinds::NAME {
-        behind_specifier(typed, token.kind)
+        if fixed && token.kind == kinds::OPEN_BRACE {
+            Some(Within::Group(1))
+        } else {
+            behind_specifier(typed, token.kind)
+        }
     } else if typed || !names.names_type(token.name) {
         None
     } else {
@@ -409,13 +413,18 @@ fn between_step(typed: bool, names: &Names, token: Terminal) -> Option<Within>
 
 /// Where what is behind a token among the specifiers of a declaration stands.
 #[tactic(auto, unfolding(c_model::specs::ParserTests::specifier_step))]
-fn specifier_step(place: Within, names: &Names, token: Terminal) -> Option<Within>
+fn specifier_step(
+    fixed: bool,
+    place: Within,
+    names: &Names,
+    token: Terminal,
+) -> Option<Within>
     requires { spec.within place < 2 ^ 63 }
-    ensures place { result ≡ spec.specifier_step place names.now token }
+    ensures place { result ≡ spec.specifier_step fixed place names.now token }
     ensures grown { IfSome result (λ next. spec.within next ≤ spec.within place + 1) }
 {
     match place {
-        Within::Between(typed) => between_step(typed, names, token),
+        Within::Between(typed) => between_step(fixed, typed, names, token),
         Within::BehindHead => behind_head(token.kind),
         Within::BehindTag => {
             if token.kind == kinds::NAME {
@@ -436,18 +445,32 @@ fn specifier_step(place: Within, names: &Names, token: Terminal) -> Option<Withi
     }
 }
 
+/// Whether the token is the `:` before the type of an enumeration, or one stood before.
+fn is_fixed(fixed: bool, place: Within, kind: u8) -> bool
+    ensures { result ≡ (fixed || spec.is_type_colon place kind) }
+{
+    let outside = match place {
+        Within::Attribute(depth) | Within::Group(depth) => depth == 0,
+        Within::Between(_) | Within::BehindHead | Within::BehindTag | Within::BehindTypeof => true,
+    };
+    fixed || outside && kind == kinds::COLON
+}
+
 /// What is behind the specifiers.
 #[tactic(auto, unfolding(c_model::specs::ParserTests::past_specifiers))]
 fn past_specifiers<'a>(names: &Names, tokens: &'a [Terminal]) -> &'a [Terminal]
-    ensures { result.now ≡ spec.past_specifiers (within.Between false) names.now tokens.now }
+    ensures { result.now ≡ spec.past_specifiers false (within.Between false) names.now tokens.now }
 {
     let mut rest = tokens;
     let mut place = Within::Between(false);
+    let mut fixed = false;
     while let Some((first, more)) = split(rest) {
-        match specifier_step(place, names, first) {
+        let later = is_fixed(fixed, place, first.kind);
+        match specifier_step(fixed, place, names, first) {
             Some(next) => place = next,
             None => return rest,
         }
+        fixed = later;
         rest = more;
     }
     rest
