@@ -1,16 +1,14 @@
 -- Where one token decides each choice, there is one derivation, and a fault is where the viable prefix ends.
-use Rattle.std.proofs.Common.{◌≡◌, ℕ, suc, ◌<◌, ◌≤◌, Bool, true, false, not, ◌&&◌, ◌||◌, List, [], ◌∷◌, ◌++◌, length, drop, ◌-◌, length-append, append_assoc, refl, ap, sym, ◌∙◌, arith}
-use Rattle.std.proofs.lemmas.Grind.{common_steps}
-use Rattle.std.specs.Prelude.{◌==◌, if◌then◌else◌}
+use Rattle.std.proofs.Common.{◌≡◌, ℕ, ◌<◌, ◌≤◌, Bool, true, false, not, ◌&&◌, ◌||◌, List, [], ◌∷◌, ◌++◌, length, drop, ◌-◌, length-append, append_assoc, refl, ap, sym, ◌∙◌, arith}
+use Rattle.std.specs.Prelude.{if◌then◌else◌}
 use mathlib.Core.Logic.{◌⊎◌, inl, inr}
 use Rattle.c_model.specs.declared.grammar.Rule.{Rule}
 use Rattle.c_model.specs.declared.grammar.Test.{Test}
-use Rattle.c_model.specs.GrammarForm.{Form, word, rule, empty, ◌then◌, ◌or◌, maybe, many, when, loop, mem}
+use Rattle.c_model.specs.GrammarForm.{Form, rule, ◌then◌, ◌or◌, maybe, many, when, loop, mem}
 use Rattle.c_model.specs.Derivation.{Language, Derives, Begins}
-use Rattle.c_model.specs.Derivation as derives
 use Rattle.c_model.specs.DecidedTable.{Tables, nullable, first, leads, within, apart, decided, table_decided}
 use Rattle.c_model.specs.ParserWalk.{ahead, goes_left, Reads, Fails, Deepens, IsQuiet}
-use Rattle.c_model.proofs.KindSets.{mem_one, mem_behind, mem_split, and_left, and_right, or_cases, or_right, not_true, clash, mem_left, mem_right, mem_cases, within_mem, apart_mem}
+use Rattle.c_model.proofs.KindSets.{mem_behind, mem_split, and_left, and_right, or_cases, or_right, not_true, clash, mem_left, mem_right, within_mem, apart_mem}
 
 module _ (T : Tables) (L : Language) (quiet : IsQuiet T L) (ok : (r : Rule) → table_decided T r (L.body r) ≡ true) where
   pub record Moves (f : Form) (s : L.State) (ts rest : List L.Token) : Type 0 where
@@ -158,8 +156,9 @@ module _ (T : Tables) (L : Language) (quiet : IsQuiet T L) (ok : (r : Rule) → 
     | inr e ↦ inr e
   ]
   entry {f = loop p f} (Begins.in_again _ d) = elim (entry d) [
-      inl m ↦ inl (record { shorter = m.shorter; begun = m.begun })
-    | inr e ↦ inr e ]
+    | inl m ↦ inl (record { shorter = m.shorter; begun = m.begun })
+    | inr e ↦ inr e
+  ]
   entry {f = loop p f} (Begins.in_further _ d e) = begun_loop p f (met_again f (step d) (begun_many p f (entry e)))
 
   -- what comes next before a form
@@ -395,9 +394,10 @@ module _ (T : Tables) (L : Language) (quiet : IsQuiet T L) (ok : (r : Rule) → 
   ended {f = loop p f} (Reads.done b) F c (Begins.in_further b' d d') h = clash _ b' b
   ended {f = loop p f} (Reads.again b r r' e) F c (Begins.in_again _ d) h = let k = no_longer (begun (sound r')) in ended r (first T f ++ F) (and_right (not (nullable T f)) _ c) d (omega arith)
   ended {f = loop p f} (Reads.again b r r' e) F c (Begins.in_further _ d d') h = elim (entry d') [
-      inl m ↦ let q = unique r (first T f ++ F) (and_right (not (nullable T f)) _ c) d (mem_left _ _ _ m.begun) in
-          ended r' F c (rw (q.state, q.place) at d') h
-    | inr e ↦ let k = no_longer (begun (sound r')) in let z = rw e at h in ended r (first T f ++ F) (and_right (not (nullable T f)) _ c) (begun d) (omega arith) ]
+    | inl m ↦ let q = unique r (first T f ++ F) (and_right (not (nullable T f)) _ c) d (mem_left _ _ _ m.begun) in
+        ended r' F c (rw (q.state, q.place) at d') h
+    | inr e ↦ let k = no_longer (begun (sound r')) in let z = rw e at h in ended r (first T f ++ F) (and_right (not (nullable T f)) _ c) (begun d) (omega arith)
+  ]
 
   -- no longer front than that before the fault is begun
   pub first_fault : {d : ℕ} {f : Form} {s : L.State} {ts rest : List L.Token} → Fails T L d f s ts rest
@@ -447,13 +447,15 @@ module _ (T : Tables) (L : Language) (quiet : IsQuiet T L) (ok : (r : Rule) → 
   first_fault {f = rule r} (Fails.no_word n b) F c d h = elim (entry d) [ inl m ↦ clash _ m.begun b | inr e ↦ let z = ap length e in omega arith ]
   first_fault {f = loop p f} (Fails.in_again b r) F c (Begins.in_again _ d) h = first_fault r (first T f ++ F) (and_right (not (nullable T f)) _ c) d h
   first_fault {f = loop p f} (Fails.in_again b r) F c (Begins.in_further _ d d') h = elim (entry d') [
-      inl m ↦ refuted r (first T f ++ F) (and_right (not (nullable T f)) _ c) d (mem_left _ _ _ m.begun)
-    | inr e ↦ let z = rw e at h in first_fault r (first T f ++ F) (and_right (not (nullable T f)) _ c) (begun d) z ]
+    | inl m ↦ refuted r (first T f ++ F) (and_right (not (nullable T f)) _ c) d (mem_left _ _ _ m.begun)
+    | inr e ↦ let z = rw e at h in first_fault r (first T f ++ F) (and_right (not (nullable T f)) _ c) (begun d) z
+  ]
   first_fault {f = loop p f} (Fails.in_further b r r') F c (Begins.in_again _ d) h = let k = no_longer (read_so_far r') in ended r (first T f ++ F) (and_right (not (nullable T f)) _ c) d (omega arith)
   first_fault {f = loop p f} (Fails.in_further b r r') F c (Begins.in_further _ d d') h = elim (entry d') [
-      inl m ↦ let q = unique r (first T f ++ F) (and_right (not (nullable T f)) _ c) d (mem_left _ _ _ m.begun) in
-          first_fault r' F c (rw (q.state, q.place) at d') h
-    | inr e ↦ let k = no_longer (read_so_far r') in let z = rw e at h in ended r (first T f ++ F) (and_right (not (nullable T f)) _ c) (begun d) (omega arith) ]
+    | inl m ↦ let q = unique r (first T f ++ F) (and_right (not (nullable T f)) _ c) d (mem_left _ _ _ m.begun) in
+        first_fault r' F c (rw (q.state, q.place) at d') h
+    | inr e ↦ let k = no_longer (read_so_far r') in let z = rw e at h in ended r (first T f ++ F) (and_right (not (nullable T f)) _ c) (begun d) (omega arith)
+  ]
 
   -- what comes before the first token that is too deep is begun
   pub deep_so_far : {d : ℕ} {f : Form} {s : L.State} {ts rest : List L.Token} → Deepens T L d f s ts rest → Begins L f s ts rest

@@ -1,5 +1,5 @@
 -- What the parser's table derives or begins, the grammar does.
-use Rattle.std.proofs.Common.{◌≡◌, true, false, List, refl, sym, subst}
+use Rattle.std.proofs.Common.{◌≡◌, true, false, List, refl, subst}
 use Rattle.c_model.specs.declared.grammar.Rule.{Rule}
 use Rattle.c_model.specs.declared.grammar.Rule.TheVariants as r
 use Rattle.c_model.specs.declared.grammar.Test.{Test}

@@ -6,7 +6,7 @@ use Rattle.c_model.specs.declared.grammar.Rule.{Rule}
 use Rattle.c_model.specs.declared.grammar.Rule.TheVariants as r
 use Rattle.c_model.specs.declared.grammar.Act.TheVariants as act
 use Rattle.c_model.specs.declared.grammar.Test.TheVariants as test
-use Rattle.c_model.specs.GrammarForm.{Form, word, rule, empty, ◌then◌, ◌or◌, maybe, many, when}
+use Rattle.c_model.specs.GrammarForm.{Form, word, rule, ◌then◌, ◌or◌, maybe, many, when}
 use Rattle.c_model.specs.Terminals as k
 
 -- a token of one kind that is no part of specifiers or of a declarator

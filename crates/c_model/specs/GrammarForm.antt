@@ -1,5 +1,5 @@
 -- The right sides of a grammar's productions as data (ISO/IEC 9899:2024, 6.1 and annex A).
-use Rattle.std.specs.Prelude.{ℕ, ◌+◌, max, Bool, true, false, ◌||◌, ◌==◌, if◌then◌else◌, List, [], ◌∷◌}
+use Rattle.std.specs.Prelude.{ℕ, Bool, false, ◌||◌, ◌==◌, List, [], ◌∷◌}
 use Rattle.c_model.specs.declared.grammar.Rule.{Rule}
 use Rattle.c_model.specs.declared.grammar.Act.{Act}
 use Rattle.c_model.specs.declared.grammar.Test.{Test}
@@ -22,7 +22,6 @@ pub data Form : Type 0 where
 
 infixr 30 ◌then◌
 infixr 20 ◌or◌
-
 -- the kind is one of these
 unfoldable pub mem : ℕ → List ℕ → Bool
 mem k [] = false

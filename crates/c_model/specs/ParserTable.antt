@@ -1,7 +1,7 @@
 -- The parser's own table: the grammar with its choices decided by the next token, by the scopes, or by a test of the
 -- tokens ahead.
 -- Without the tests it is the grammar.
-use Rattle.std.specs.Prelude.{ℕ, List, [], ◌∷◌}
+use Rattle.std.specs.Prelude.{[], ◌∷◌}
 use Rattle.c_model.specs.declared.grammar.Rule.{Rule}
 use Rattle.c_model.specs.declared.grammar.Rule.TheVariants as r
 use Rattle.c_model.specs.declared.grammar.Act.TheVariants as act

@@ -78,11 +78,11 @@ inside_step n kind = if is_opening kind then Inside (n + 1) else if not (is_clos
 -- behind another token: `*`, `(`, a qualifier where a `*` stands before, or an attribute directly behind `*`
 abbrev pub outside_step : Bool → Bool → ℕ → Bool → Option Before
 outside_step is_behind is_star kind is_attribute =
-  if kind == k.Star then Some BehindStar
-  else if kind == k.OpenParenthesis then Some (AtStart false)
-  else if is_behind && is_qualifier kind then Some BehindQualifier
-  else if is_star && is_attribute then Some (Inside 1)
-  else None
+    if kind == k.Star then Some BehindStar
+    else if kind == k.OpenParenthesis then Some (AtStart false)
+    else if is_behind && is_qualifier kind then Some BehindQualifier
+    else if is_star && is_attribute then Some (Inside 1)
+    else None
 
 -- where what is behind a token of a declarator stands, unless the token is a name or begins something else; whether an
 -- attribute begins with it
@@ -151,9 +151,9 @@ is_type_word kind = mem kind type_words
 -- behind a word of a specifier
 abbrev pub behind_word : Bool → ℕ → Within
 behind_word typed kind =
-  if kind == k.Struct || kind == k.Enum then BehindHead
-  else if kind == k.Typeof || kind == k.TypeofUnqual then BehindTypeof
-  else Between (typed || is_type_word kind)
+    if kind == k.Struct || kind == k.Enum then BehindHead
+    else if kind == k.Typeof || kind == k.TypeofUnqual then BehindTypeof
+    else Between (typed || is_type_word kind)
 
 -- behind a word that begins a specifier, or `:`, or the end of the specifiers
 abbrev pub behind_specifier : Bool → ℕ → Option Within
@@ -171,9 +171,9 @@ head_step kind = if kind == k.Name then Some BehindTag else if kind == k.OpenBra
 -- does `{` where no enumeration with a type can take it
 abbrev pub between_step : Bool → Bool → Scopes → Terminal → Option Within
 between_step fixed typed s t =
-  if t.kind == k.Name then (if typed || not (is_type s.entries t.name) then None else Some (Between true))
-  else if fixed && t.kind == k.OpenBrace then Some (Group 1)
-  else behind_specifier typed t.kind
+    if t.kind == k.Name then (if typed || not (is_type s.entries t.name) then None else Some (Between true))
+    else if fixed && t.kind == k.OpenBrace then Some (Group 1)
+    else behind_specifier typed t.kind
 
 abbrev pub brackets : Bool → ℕ → Within
 brackets is_attribute n = if is_attribute then Attribute n else Group n
@@ -181,10 +181,10 @@ brackets is_attribute n = if is_attribute then Attribute n else Group n
 -- in brackets
 abbrev pub bracket_step : Bool → ℕ → ℕ → Within
 bracket_step is_attribute n kind =
-  if is_opening kind then brackets is_attribute (n + 1)
-  else if not (is_closing kind) then brackets is_attribute n
-  else if n == 1 then (if is_attribute then BehindHead else Between true)
-  else brackets is_attribute (n - 1)
+    if is_opening kind then brackets is_attribute (n + 1)
+    else if not (is_closing kind) then brackets is_attribute n
+    else if n == 1 then (if is_attribute then BehindHead else Between true)
+    else brackets is_attribute (n - 1)
 
 -- where what is behind a token among the specifiers of a declaration stands, unless they have ended before it
 unfoldable pub specifier_step : Bool → Within → Scopes → Terminal → Option Within

@@ -1,6 +1,5 @@
 -- The trees of the grammar, and the language that the grammar gives: its trees are the derivations.
-use Rattle.std.specs.Prelude.{ℕ, Bool, true, false, List, [], ◌∷◌, Option, Some, None}
-use Rattle.c_model.specs.declared.grammar.Rule.TheVariants as r
+use Rattle.std.specs.Prelude.{Bool, true, false, List, Option, Some, None}
 use Rattle.c_model.specs.declared.grammar.Test.{Test}
 use Rattle.c_model.specs.declared.grammar.Test.TheVariants as test
 use Rattle.c_model.specs.declared.grammar.Terminal.{Terminal}

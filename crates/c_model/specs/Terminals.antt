@@ -469,4 +469,3 @@ Closing = 116
 -- a closing bracket that matches no open one there
 abbrev pub Stray : ℕ
 Stray = 117
-

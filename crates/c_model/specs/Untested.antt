@@ -1,6 +1,5 @@
 -- A table without its tests of the tokens ahead: both alternatives stand where such a test chooses. A test of the
 -- scopes alone stays.
-use Rattle.c_model.specs.declared.grammar.Rule.{Rule}
 use Rattle.c_model.specs.declared.grammar.Test.{Test}
 use Rattle.c_model.specs.declared.grammar.Test.TheVariants as test
 use Rattle.c_model.specs.GrammarForm.{Form, word, rule, empty, ◌then◌, ◌or◌, maybe, many, when, loop}

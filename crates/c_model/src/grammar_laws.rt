@@ -18,26 +18,22 @@ ghost use Rattle.c_model.specs.ParserWalk.{IsQuiet};
 #[tactic(auto, using(crate::proofs::ParserDecided::checked))]
 pub fn table_is_decided()
     ensures { (rule : Rule) → table_decided tables rule (table rule) ≡ true }
-{
-}
+{}
 
 /// The end of a nonterminal changes the kind of no token that decides whether it has ended.
 #[tactic(auto, using(crate::proofs::ParserDecided::quiet))]
 pub fn ends_are_quiet()
     ensures { IsQuiet tables parsed }
-{
-}
+{}
 
 /// What the parser's table derives, with its tests of the tokens ahead, the grammar derives, as the same trees.
 #[tactic(auto, using(crate::proofs::Forget::forget_unit))]
 pub fn parsed_is_derived()
     ensures { (ts : List Terminal) (xs : List Tree) (new : Scopes) (rest : List Terminal) → Derives parsed (rule r.Unit) start ts xs new rest → Derives c_language (rule r.Unit) start ts xs new rest }
-{
-}
+{}
 
 /// What the parser's table begins, the grammar begins.
 #[tactic(auto, using(crate::proofs::Forget::forget_begun_unit))]
 pub fn parsed_front_is_begun()
     ensures { (ts rest : List Terminal) → Begins parsed (rule r.Unit) start ts rest → Begins c_language (rule r.Unit) start ts rest }
-{
-}
+{}

@@ -1,13 +1,10 @@
 -- From what the reading did to what the tokens are.
-use Rattle.std.proofs.Common.{◌≡◌, ℕ, ◌+◌, ◌-◌, ◌<◌, ◌≤◌, Bool, true, List, [], ◌∷◌, ◌++◌, length, drop, refl, ap, sym, subst, ◌∙◌, arith, Result, Ok, Err}
-use Rattle.c_model.specs.declared.grammar.Rule.TheVariants as r
+use Rattle.std.proofs.Common.{◌≡◌, ℕ, ◌+◌, ◌-◌, ◌<◌, ◌≤◌, true, List, [], ◌∷◌, ◌++◌, length, refl, ap, sym, subst, ◌∙◌, arith, Err}
 use Rattle.c_model.specs.declared.grammar.Terminal.{Terminal}
 use Rattle.c_model.specs.declared.grammar.Tree.{Tree}
-use Rattle.c_model.specs.GrammarForm.{Form, rule, mem}
+use Rattle.c_model.specs.GrammarForm.{Form, mem}
 use Rattle.c_model.specs.NameScopes.{Scopes, start}
-use Rattle.c_model.specs.Derivation.{Derives, Begins}
-use Rattle.c_model.specs.FaultPlace.{FaultsAt, IsWhole}
-use Rattle.c_model.specs.SyntaxTree.{c_language}
+use Rattle.c_model.specs.Derivation.{Begins}
 use Rattle.c_model.specs.DecidedTable.{decided, within}
 use Rattle.c_model.specs.ParserWalk.{Reads, Fails, Deepens, ahead}
 use Rattle.c_model.specs.ParserSets.{tables, follows}

@@ -1,6 +1,5 @@
 -- Each nonterminal weighs more than its right side, or is a part.
-use Rattle.std.proofs.Common.{◌≡◌, ◌≤◌, ◌<◌, ℕ, ◌+◌, ◌*◌, true, false, Bool, refl, arith}
-use Rattle.std.specs.Prelude.{max}
+use Rattle.std.proofs.Common.{◌≡◌, ◌≤◌, ◌<◌, false, arith}
 use Rattle.c_model.specs.declared.grammar.Rule.{Rule}
 use Rattle.c_model.specs.declared.grammar.Rule.TheVariants as r
 use Rattle.c_model.specs.Grammar.{is_part}

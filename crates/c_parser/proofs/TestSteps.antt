@@ -1,6 +1,6 @@
 -- What a step of a test shows.
-use Rattle.std.proofs.Common.{◌≡◌, List, [], ◌∷◌, refl}
-use Rattle.std.specs.Prelude.{Option, Some, None, Bool, ◌||◌}
+use Rattle.std.proofs.Common.{◌≡◌, List, ◌∷◌, refl}
+use Rattle.std.specs.Prelude.{Some, None, Bool, ◌||◌}
 use Rattle.c_model.specs.declared.grammar.Before.{Before}
 use Rattle.c_model.specs.declared.grammar.Within.{Within}
 use Rattle.c_model.specs.declared.grammar.Terminal.{Terminal}

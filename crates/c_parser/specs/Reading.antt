@@ -1,13 +1,12 @@
 -- What the reading of a form shows.
-use Rattle.std.specs.Prelude.{ℕ, ◌≡◌, ◌+◌, true, false, List, [], ◌∷◌, ◌++◌, Result, Ok, Err, Option, Some, None}
+use Rattle.std.specs.Prelude.{ℕ, ◌≡◌, ◌+◌, true, false, List, ◌++◌, Result, Ok, Err, Option, Some, None}
 use Rattle.c_parser.specs.declared.reader.Reader.{Reader}
 use Rattle.c_parser.specs.declared.reader.Stop.{Stop}
 use Rattle.c_parser.specs.declared.reader.Stop.TheVariants as stop
 use Rattle.c_model.specs.declared.grammar.Rule.{Rule}
-use Rattle.c_model.specs.declared.grammar.Test.{Test}
 use Rattle.c_model.specs.declared.grammar.Terminal.{Terminal}
 use Rattle.c_model.specs.declared.grammar.Tree.{Tree}
-use Rattle.c_model.specs.GrammarForm.{Form, many, loop}
+use Rattle.c_model.specs.GrammarForm.{Form}
 use Rattle.c_model.specs.Grammar.{is_part}
 use Rattle.c_model.specs.NameScopes.{Scopes}
 use Rattle.c_model.specs.DecidedTable.{decided}

@@ -5,10 +5,11 @@ mod forms;
 pub mod kinds;
 mod lookahead;
 mod names;
-
 mod reader;
 mod sets;
 mod stack;
+#[cfg(test)]
+mod tests;
 mod unit;
 
 pub use unit::{Refusal, parse};

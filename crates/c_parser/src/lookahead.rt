@@ -413,12 +413,7 @@ fn between_step(fixed: bool, typed: bool, names: &Names, token: Terminal) -> Opt
 
 /// Where what is behind a token among the specifiers of a declaration stands.
 #[tactic(auto, unfolding(c_model::specs::ParserTests::specifier_step))]
-fn specifier_step(
-    fixed: bool,
-    place: Within,
-    names: &Names,
-    token: Terminal,
-) -> Option<Within>
+fn specifier_step(fixed: bool, place: Within, names: &Names, token: Terminal) -> Option<Within>
     requires { spec.within place < 2 ^ 63 }
     ensures place { result ≡ spec.specifier_step fixed place names.now token }
     ensures grown { IfSome result (λ next. spec.within next ≤ spec.within place + 1) }

@@ -60,7 +60,38 @@ pub fn is_part(rule: Rule) -> bool
 fn begins_unit(ahead: u8) -> bool
     ensures { result ≡ mem ahead (spec.firsts rule.Unit) }
 {
-    matches!(ahead, 1 | 2 | 3 | 4 | 5 | 6 | 7 | 8 | 9 | 10 | 11 | 12 | 13 | 14 | 15 | 16 | 17 | 18 | 19 | 20 | 21 | 22 | 23 | 24 | 25 | 26 | 27 | 28 | 68 | 112)
+    matches!(
+        ahead,
+        1 | 2
+            | 3
+            | 4
+            | 5
+            | 6
+            | 7
+            | 8
+            | 9
+            | 10
+            | 11
+            | 12
+            | 13
+            | 14
+            | 15
+            | 16
+            | 17
+            | 18
+            | 19
+            | 20
+            | 21
+            | 22
+            | 23
+            | 24
+            | 25
+            | 26
+            | 27
+            | 28
+            | 68
+            | 112
+    )
 }
 
 /// Whether `Function` may begin with a token of this kind.
@@ -68,7 +99,36 @@ fn begins_unit(ahead: u8) -> bool
 fn begins_function(ahead: u8) -> bool
     ensures { result ≡ mem ahead (spec.firsts rule.Function) }
 {
-    matches!(ahead, 3 | 4 | 5 | 6 | 7 | 8 | 9 | 10 | 11 | 12 | 13 | 14 | 15 | 16 | 17 | 18 | 19 | 20 | 21 | 22 | 23 | 24 | 25 | 26 | 27 | 28 | 68 | 112)
+    matches!(
+        ahead,
+        3 | 4
+            | 5
+            | 6
+            | 7
+            | 8
+            | 9
+            | 10
+            | 11
+            | 12
+            | 13
+            | 14
+            | 15
+            | 16
+            | 17
+            | 18
+            | 19
+            | 20
+            | 21
+            | 22
+            | 23
+            | 24
+            | 25
+            | 26
+            | 27
+            | 28
+            | 68
+            | 112
+    )
 }
 
 /// Whether `Specs` may begin with a token of this kind.
@@ -76,7 +136,35 @@ fn begins_function(ahead: u8) -> bool
 fn begins_specs(ahead: u8) -> bool
     ensures { result ≡ mem ahead (spec.firsts rule.Specs) }
 {
-    matches!(ahead, 3 | 4 | 5 | 6 | 7 | 8 | 9 | 10 | 11 | 12 | 13 | 14 | 15 | 16 | 17 | 18 | 19 | 20 | 21 | 22 | 23 | 24 | 25 | 26 | 27 | 28 | 112)
+    matches!(
+        ahead,
+        3 | 4
+            | 5
+            | 6
+            | 7
+            | 8
+            | 9
+            | 10
+            | 11
+            | 12
+            | 13
+            | 14
+            | 15
+            | 16
+            | 17
+            | 18
+            | 19
+            | 20
+            | 21
+            | 22
+            | 23
+            | 24
+            | 25
+            | 26
+            | 27
+            | 28
+            | 112
+    )
 }
 
 /// Whether `Storage` may begin with a token of this kind.
@@ -92,7 +180,10 @@ fn begins_storage(ahead: u8) -> bool
 fn begins_typespec(ahead: u8) -> bool
     ensures { result ≡ mem ahead (spec.firsts rule.Typespec) }
 {
-    matches!(ahead, 11 | 12 | 13 | 14 | 15 | 16 | 17 | 18 | 19 | 20 | 21 | 27 | 28 | 112)
+    matches!(
+        ahead,
+        11 | 12 | 13 | 14 | 15 | 16 | 17 | 18 | 19 | 20 | 21 | 27 | 28 | 112
+    )
 }
 
 /// Whether `Qual` may begin with a token of this kind.
@@ -108,7 +199,27 @@ fn begins_qual(ahead: u8) -> bool
 fn begins_squals(ahead: u8) -> bool
     ensures { result ≡ mem ahead (spec.firsts rule.Squals) }
 {
-    matches!(ahead, 11 | 12 | 13 | 14 | 15 | 16 | 17 | 18 | 19 | 20 | 21 | 22 | 23 | 24 | 25 | 26 | 27 | 28 | 112)
+    matches!(
+        ahead,
+        11 | 12
+            | 13
+            | 14
+            | 15
+            | 16
+            | 17
+            | 18
+            | 19
+            | 20
+            | 21
+            | 22
+            | 23
+            | 24
+            | 25
+            | 26
+            | 27
+            | 28
+            | 112
+    )
 }
 
 /// Whether `Member` may begin with a token of this kind.
@@ -116,7 +227,30 @@ fn begins_squals(ahead: u8) -> bool
 fn begins_member(ahead: u8) -> bool
     ensures { result ≡ mem ahead (spec.firsts rule.Member) }
 {
-    matches!(ahead, 1 | 2 | 11 | 12 | 13 | 14 | 15 | 16 | 17 | 18 | 19 | 20 | 21 | 22 | 23 | 24 | 25 | 26 | 27 | 28 | 68 | 112)
+    matches!(
+        ahead,
+        1 | 2
+            | 11
+            | 12
+            | 13
+            | 14
+            | 15
+            | 16
+            | 17
+            | 18
+            | 19
+            | 20
+            | 21
+            | 22
+            | 23
+            | 24
+            | 25
+            | 26
+            | 27
+            | 28
+            | 68
+            | 112
+    )
 }
 
 /// Whether `Declarator` may begin with a token of this kind.
@@ -148,7 +282,27 @@ fn begins_abstract(ahead: u8) -> bool
 fn begins_init(ahead: u8) -> bool
     ensures { result ≡ mem ahead (spec.firsts rule.Init) }
 {
-    matches!(ahead, 41 | 42 | 43 | 44 | 45 | 46 | 66 | 70 | 74 | 92 | 101 | 102 | 105 | 106 | 107 | 108 | 111 | 114 | 115)
+    matches!(
+        ahead,
+        41 | 42
+            | 43
+            | 44
+            | 45
+            | 46
+            | 66
+            | 70
+            | 74
+            | 92
+            | 101
+            | 102
+            | 105
+            | 106
+            | 107
+            | 108
+            | 111
+            | 114
+            | 115
+    )
 }
 
 /// Whether `Item` may begin with a token of this kind.
@@ -156,7 +310,29 @@ fn begins_init(ahead: u8) -> bool
 fn begins_item(ahead: u8) -> bool
     ensures { result ≡ mem ahead (spec.firsts rule.Item) }
 {
-    matches!(ahead, 41 | 42 | 43 | 44 | 45 | 46 | 66 | 68 | 70 | 74 | 76 | 92 | 101 | 102 | 105 | 106 | 107 | 108 | 111 | 114 | 115)
+    matches!(
+        ahead,
+        41 | 42
+            | 43
+            | 44
+            | 45
+            | 46
+            | 66
+            | 68
+            | 70
+            | 74
+            | 76
+            | 92
+            | 101
+            | 102
+            | 105
+            | 106
+            | 107
+            | 108
+            | 111
+            | 114
+            | 115
+    )
 }
 
 /// Whether `Label` may begin with a token of this kind.
@@ -172,7 +348,38 @@ fn begins_label(ahead: u8) -> bool
 fn begins_statement(ahead: u8) -> bool
     ensures { result ≡ mem ahead (spec.firsts rule.Statement) }
 {
-    matches!(ahead, 31 | 33 | 34 | 35 | 36 | 37 | 38 | 39 | 40 | 41 | 42 | 43 | 44 | 45 | 46 | 65 | 66 | 68 | 70 | 74 | 92 | 101 | 102 | 105 | 106 | 107 | 108 | 111 | 114 | 115)
+    matches!(
+        ahead,
+        31 | 33
+            | 34
+            | 35
+            | 36
+            | 37
+            | 38
+            | 39
+            | 40
+            | 41
+            | 42
+            | 43
+            | 44
+            | 45
+            | 46
+            | 65
+            | 66
+            | 68
+            | 70
+            | 74
+            | 92
+            | 101
+            | 102
+            | 105
+            | 106
+            | 107
+            | 108
+            | 111
+            | 114
+            | 115
+    )
 }
 
 /// Whether `Expr` may begin with a token of this kind.
@@ -180,7 +387,26 @@ fn begins_statement(ahead: u8) -> bool
 fn begins_expr(ahead: u8) -> bool
     ensures { result ≡ mem ahead (spec.firsts rule.Expr) }
 {
-    matches!(ahead, 41 | 42 | 43 | 44 | 45 | 46 | 66 | 74 | 92 | 101 | 102 | 105 | 106 | 107 | 108 | 111 | 114 | 115)
+    matches!(
+        ahead,
+        41 | 42
+            | 43
+            | 44
+            | 45
+            | 46
+            | 66
+            | 74
+            | 92
+            | 101
+            | 102
+            | 105
+            | 106
+            | 107
+            | 108
+            | 111
+            | 114
+            | 115
+    )
 }
 
 /// Whether `Postfix` may begin with a token of this kind.
@@ -192,7 +418,13 @@ fn begins_postfix(ahead: u8) -> bool
 }
 
 /// The kinds with which a token inside an attribute may come.
-const BALANCED: &[u8] = &[1, 2, 3, 4, 5, 6, 7, 8, 9, 10, 11, 12, 13, 14, 15, 16, 17, 18, 19, 20, 21, 22, 23, 24, 25, 26, 27, 28, 29, 30, 31, 32, 33, 34, 35, 36, 37, 38, 39, 40, 41, 42, 43, 44, 45, 46, 47, 48, 49, 50, 51, 52, 53, 54, 55, 56, 57, 58, 59, 60, 61, 62, 63, 64, 65, 66, 68, 70, 72, 73, 74, 75, 76, 77, 78, 79, 80, 81, 82, 83, 84, 85, 86, 87, 88, 89, 90, 91, 92, 93, 94, 95, 96, 97, 98, 99, 100, 101, 102, 103, 104, 105, 106, 107, 108, 109, 110, 111, 112, 113, 114, 115, 116];
+const BALANCED: &[u8] = &[
+    1, 2, 3, 4, 5, 6, 7, 8, 9, 10, 11, 12, 13, 14, 15, 16, 17, 18, 19, 20, 21, 22, 23, 24, 25, 26,
+    27, 28, 29, 30, 31, 32, 33, 34, 35, 36, 37, 38, 39, 40, 41, 42, 43, 44, 45, 46, 47, 48, 49, 50,
+    51, 52, 53, 54, 55, 56, 57, 58, 59, 60, 61, 62, 63, 64, 65, 66, 68, 70, 72, 73, 74, 75, 76, 77,
+    78, 79, 80, 81, 82, 83, 84, 85, 86, 87, 88, 89, 90, 91, 92, 93, 94, 95, 96, 97, 98, 99, 100,
+    101, 102, 103, 104, 105, 106, 107, 108, 109, 110, 111, 112, 113, 114, 115, 116,
+];
 
 /// Whether `Balanced` may begin with a token of this kind.
 #[tactic(auto, unfolding(c_model::specs::ParserSets::firsts))]
@@ -231,7 +463,21 @@ pub fn may_begin(rule: Rule, ahead: u8) -> bool
         Rule::Desig => ahead == 68 || ahead == 76,
         Rule::Label => begins_label(ahead),
         Rule::Statement => begins_statement(ahead),
-        Rule::Expr | Rule::Assign | Rule::Cond | Rule::Oror | Rule::Andand | Rule::Bor | Rule::Bxor | Rule::Band | Rule::Equal | Rule::Rel | Rule::Shift | Rule::Sum | Rule::Product | Rule::Cast | Rule::Unary => begins_expr(ahead),
+        Rule::Expr
+        | Rule::Assign
+        | Rule::Cond
+        | Rule::Oror
+        | Rule::Andand
+        | Rule::Bor
+        | Rule::Bxor
+        | Rule::Band
+        | Rule::Equal
+        | Rule::Rel
+        | Rule::Shift
+        | Rule::Sum
+        | Rule::Product
+        | Rule::Cast
+        | Rule::Unary => begins_expr(ahead),
         Rule::Postfix | Rule::Primary => begins_postfix(ahead),
         Rule::Literal => ahead == 66,
         Rule::Balanced => begins_balanced(ahead),

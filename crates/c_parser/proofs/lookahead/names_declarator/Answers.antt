@@ -1,4 +1,4 @@
-use Rattle.std.proofs.Common.{sym, ◌∙◌, arith, length, ◌∷◌, ◌≡◌, ap}
+use Rattle.std.proofs.Common.{sym, ◌∙◌, arith}
 use Rattle.std.proofs.lemmas.Grind.{common_steps}
 use Rattle.c_parser.proofs.TestSteps.{names_on}
 use Rattle.c_parser.proofs.lookahead.names_declarator.Goals as goal

@@ -1,6 +1,6 @@
-use Rattle.std.proofs.Common.{sym, ◌∙◌, arith, length, ◌∷◌, ◌≡◌, ap}
+use Rattle.std.proofs.Common.{sym, ◌∙◌, arith}
 use Rattle.std.proofs.lemmas.Grind.{common_steps}
-use Rattle.c_parser.proofs.TestSteps.{specifiers_on, specifiers_end}
+use Rattle.c_parser.proofs.TestSteps.{specifiers_on}
 use Rattle.c_parser.proofs.lookahead.past_specifiers.Goals as goal
 
 pub loop-first-preserved : goal.loop-first-preserved

@@ -1,9 +1,8 @@
-use Rattle.std.proofs.Common.{rules, ◌≡◌, ◌≤◌, true, ℕ, ◌+◌, ◌-◌, ◌*◌, ◌<◌, length, List, [], ◌∷◌, ◌++◌, sym, ap, subst, ◌∙◌, arith}
+use Rattle.std.proofs.Common.{◌≡◌, ◌+◌, ◌*◌, sym, subst, ◌∙◌}
 use Rattle.std.proofs.lemmas.Result.{err_from_is_err_and}
-use Rattle.c_model.specs.GrammarForm.{mem, word}
 use Rattle.c_parser.specs.View.{form}
 use Rattle.c_parser.specs.Weight.{weight}
-use Rattle.c_parser.specs.Reading.{Told, IsDecided}
+use Rattle.c_parser.specs.Reading.{IsDecided}
 use Rattle.c_parser.proofs.ReaderSteps.{then_told, first_told, left_told, right_told, take_told, chosen_told, other_told, rule_told, rule_fails, none_told, skip_told, no_turn, one_turn, turn_told, stop_told, one_again, again_told, done_told, turn_moves, again_moves, rule_decided, then_decided, or_decided, when_decided, maybe_decided, many_decided, loop_decided, falls_then, falls_or, falls_when, falls_maybe, falls_many, falls_loop, falls_rule, deep_rule, fault_rule}
 use Rattle.c_parser.proofs.reader.+read.Goals as goal
 

@@ -1,4 +1,4 @@
-use Rattle.std.proofs.Common.{◌≡◌, ◌≤◌, true, ℕ, ◌+◌, ◌-◌, ◌*◌, ◌<◌, length}
+use Rattle.std.proofs.Common.{◌+◌, ◌*◌, length}
 use Rattle.c_model.specs.GrammarForm.{many, loop}
 use Rattle.c_parser.specs.View.{form}
 use Rattle.c_parser.specs.Weight.{weight}

@@ -1,4 +1,3 @@
-use Rattle.std.proofs.Common.{sym, ◌∙◌, ◌≡◌}
 use Rattle.c_parser.proofs.ReaderSteps.{word_faults, end_faults, word_reads}
 use Rattle.c_parser.proofs.reader.Reader.word.Goals as goal
 
