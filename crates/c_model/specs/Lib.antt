@@ -14,3 +14,7 @@ pub mod ParserTable
 pub mod ParserSets
 pub mod ParserTests
 pub mod Untested
+pub mod Preferences
+pub mod DepthPlace
+pub mod OpenPrimary
+pub mod TerminalsOf

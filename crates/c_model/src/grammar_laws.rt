@@ -9,6 +9,9 @@ ghost use Rattle.c_model.specs.Derivation.{Derives, Begins};
 ghost use Rattle.c_model.specs.GrammarForm.{rule};
 ghost use Rattle.c_model.specs.NameScopes.{Scopes, start};
 ghost use Rattle.c_model.specs.SyntaxTree.{c_language};
+ghost use Rattle.c_model.specs.Grammar.{grammar};
+ghost use Rattle.c_model.specs.OpenPrimary.{open_primary};
+ghost use Rattle.c_model.specs.Untested.{untested};
 ghost use Rattle.c_model.specs.ParserSets.{tables};
 ghost use Rattle.c_model.specs.ParserTable.{table};
 ghost use Rattle.c_model.specs.ParserTests.{parsed};
@@ -37,3 +40,17 @@ pub fn parsed_is_derived()
 pub fn parsed_front_is_begun()
     ensures { (ts rest : List Terminal) → Begins parsed (rule r.Unit) start ts rest → Begins c_language (rule r.Unit) start ts rest }
 {}
+
+/// The parser's table without its tests of the tokens ahead is the grammar.
+#[tactic(auto, using(crate::proofs::Forget::same_table))]
+pub fn untested_table_is_grammar()
+    ensures { (rule : Rule) → untested (table rule) ≡ grammar rule }
+{
+}
+
+/// The test at the parenthesis of a primary expression loses no derivation.
+#[tactic(auto, using(crate::proofs::RegainPrimary::regain_unit))]
+pub fn primary_test_loses_nothing()
+    ensures { (ts : List Terminal) (xs : List Tree) (new : Scopes) (rest : List Terminal) → Derives open_primary (rule r.Unit) start ts xs new rest → Derives parsed (rule r.Unit) start ts xs new rest }
+{
+}
