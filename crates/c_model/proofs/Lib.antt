@@ -8,3 +8,8 @@ pub mod SourceRelated
 pub mod StatementsRelated
 pub mod Turns
 pub mod OneFindings
+pub mod KindSets
+pub mod DecidedGrammar
+pub mod ParserDecided
+pub mod Forget
+pub mod RegainPrimary

@@ -8,6 +8,8 @@ pub mod constants;
 pub mod examples;
 pub mod first_tokens;
 pub mod flow;
+pub mod grammar;
+pub mod grammar_laws;
 pub mod laws;
 pub mod marks;
 pub mod memory_examples;

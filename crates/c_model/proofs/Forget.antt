@@ -1,0 +1,190 @@
+-- What the parser's table derives or begins, the grammar does.
+use Rattle.std.proofs.Common.{◌≡◌, true, false, List, refl, subst}
+use Rattle.c_model.specs.declared.grammar.Rule.{Rule}
+use Rattle.c_model.specs.declared.grammar.Rule.TheVariants as r
+use Rattle.c_model.specs.declared.grammar.Test.{Test}
+use Rattle.c_model.specs.declared.grammar.Test.TheVariants as test
+use Rattle.c_model.specs.declared.grammar.Terminal.{Terminal}
+use Rattle.c_model.specs.declared.grammar.Tree.{Tree}
+use Rattle.c_model.specs.GrammarForm.{Form, word, rule, empty, ◌then◌, ◌or◌, maybe, many, when, loop}
+use Rattle.c_model.specs.NameScopes.{Scopes, start}
+use Rattle.c_model.specs.Derivation.{Derives, Begins}
+use Rattle.c_model.specs.Untested.{untested, open_choice, either}
+use Rattle.c_model.specs.Grammar.{grammar}
+use Rattle.c_model.specs.ParserTable.{table}
+use Rattle.c_model.specs.SyntaxTree.{c_language}
+use Rattle.c_model.specs.ParserTests.{parsed, passes}
+
+pub same_table : (rule : Rule) → untested (table rule) ≡ grammar rule
+unfolding untested open_choice either table grammar
+same_table r.Unit = refl
+same_table r.External = refl
+same_table r.Function = refl
+same_table r.Declaration = refl
+same_table r.Sassert = refl
+same_table r.Attrs = refl
+same_table r.Attr = refl
+same_table r.Specs = refl
+same_table r.Spec = refl
+same_table r.Storage = refl
+same_table r.Typespec = refl
+same_table r.Qual = refl
+same_table r.Squals = refl
+same_table r.Struct = refl
+same_table r.Members = refl
+same_table r.Member = refl
+same_table r.Enum = refl
+same_table r.Enumr = refl
+same_table r.Declarator = refl
+same_table r.Direct = refl
+same_table r.Suffix = refl
+same_table r.Params = refl
+same_table r.Param = refl
+same_table r.Typename = refl
+same_table r.Abstract = refl
+same_table r.Adirect = refl
+same_table r.Initdecl = refl
+same_table r.Init = refl
+same_table r.Braces = refl
+same_table r.Item = refl
+same_table r.Desig = refl
+same_table r.Block = refl
+same_table r.Label = refl
+same_table r.Statement = refl
+same_table r.Expr = refl
+same_table r.Assign = refl
+same_table r.Cond = refl
+same_table r.Oror = refl
+same_table r.Andand = refl
+same_table r.Bor = refl
+same_table r.Bxor = refl
+same_table r.Band = refl
+same_table r.Equal = refl
+same_table r.Rel = refl
+same_table r.Shift = refl
+same_table r.Sum = refl
+same_table r.Product = refl
+same_table r.Cast = refl
+same_table r.Unary = refl
+same_table r.Postfix = refl
+same_table r.Primary = refl
+same_table r.Literal = refl
+same_table r.Balanced = refl
+same_table r.Declared = refl
+same_table r.ParamSpecs = refl
+same_table r.Body = refl
+same_table r.Typeof = refl
+same_table r.If = refl
+same_table r.For = refl
+
+-- the first alternative of a choice, and the second
+in_either : (f g : Form) {s new : Scopes} {ts rest : List Terminal} {xs : List Tree} → Derives c_language f s ts xs new rest → Derives c_language (either f g) s ts xs new rest
+unfolding either
+in_either f (word ks a) d = Derives.left d
+in_either f (rule n) d = Derives.left d
+in_either f empty d = Derives.take d
+in_either f (g then h) d = Derives.left d
+in_either f (g or h) d = Derives.left d
+in_either f (maybe g) d = Derives.left d
+in_either f (many g) d = Derives.left d
+in_either f (when p g h) d = Derives.left d
+in_either f (loop p g) d = Derives.left d
+
+or_else : (f g : Form) {s new : Scopes} {ts rest : List Terminal} {xs : List Tree} → Derives c_language g s ts xs new rest → Derives c_language (either f g) s ts xs new rest
+unfolding either
+or_else f (word ks a) d = Derives.right d
+or_else f (rule n) d = Derives.right d
+or_else f empty Derives.nothing = Derives.skip
+or_else f (g then h) d = Derives.right d
+or_else f (g or h) d = Derives.right d
+or_else f (maybe g) d = Derives.right d
+or_else f (many g) d = Derives.right d
+or_else f (when p g h) d = Derives.right d
+or_else f (loop p g) d = Derives.right d
+
+choice_first : (p : Test) (f g : Form) {s new : Scopes} {ts rest : List Terminal} {xs : List Tree} → passes p s ts ≡ true → Derives c_language f s ts xs new rest → Derives c_language (open_choice p f g) s ts xs new rest
+unfolding open_choice
+choice_first test.HasParameters f g b d = Derives.chosen b d
+choice_first _ f g b d = in_either f g d
+
+choice_second : (p : Test) (f g : Form) {s new : Scopes} {ts rest : List Terminal} {xs : List Tree} → passes p s ts ≡ false → Derives c_language g s ts xs new rest → Derives c_language (open_choice p f g) s ts xs new rest
+unfolding open_choice
+choice_second test.HasParameters f g b d = Derives.other b d
+choice_second _ f g b d = or_else f g d
+
+pub forget : {f : Form} {s new : Scopes} {ts rest : List Terminal} {xs : List Tree} → Derives parsed f s ts xs new rest → Derives c_language (untested f) s ts xs new rest
+unfolding untested
+forget (Derives.a_word e) = Derives.a_word e
+forget {f = rule n} {s = s} {ts = ts} (Derives.a_rule {new = new} {rest = rest} {xs = xs} d) = Derives.a_rule (subst (λ g. Derives c_language g s ts xs new rest) (same_table n) (forget d))
+forget Derives.nothing = Derives.nothing
+forget (Derives.both d e p) = Derives.both (forget d) (forget e) p
+forget (Derives.left d) = Derives.left (forget d)
+forget (Derives.right d) = Derives.right (forget d)
+forget Derives.skip = Derives.skip
+forget (Derives.take d) = Derives.take (forget d)
+forget Derives.stop = Derives.stop
+forget (Derives.turn d e p) = Derives.turn (forget d) (forget e) p
+forget (Derives.chosen b d) = choice_first _ _ _ b (forget d)
+forget (Derives.other b d) = choice_second _ _ _ b (forget d)
+forget (Derives.done _) = Derives.stop
+forget (Derives.again _ d e p) = Derives.turn (forget d) (forget e) p
+
+-- likewise what is begun
+begun_either : (f g : Form) {s : Scopes} {ts rest : List Terminal} → Begins c_language f s ts rest → Begins c_language (either f g) s ts rest
+unfolding either
+begun_either f (word ks a) d = Begins.in_left d
+begun_either f (rule n) d = Begins.in_left d
+begun_either f empty d = Begins.in_maybe d
+begun_either f (g then h) d = Begins.in_left d
+begun_either f (g or h) d = Begins.in_left d
+begun_either f (maybe g) d = Begins.in_left d
+begun_either f (many g) d = Begins.in_left d
+begun_either f (when p g h) d = Begins.in_left d
+begun_either f (loop p g) d = Begins.in_left d
+
+begun_else : (f g : Form) {s : Scopes} {ts rest : List Terminal} → Begins c_language g s ts rest → Begins c_language (either f g) s ts rest
+unfolding either
+begun_else f (word ks a) d = Begins.in_right d
+begun_else f (rule n) d = Begins.in_right d
+begun_else f empty Begins.yet = Begins.yet
+begun_else f (g then h) d = Begins.in_right d
+begun_else f (g or h) d = Begins.in_right d
+begun_else f (maybe g) d = Begins.in_right d
+begun_else f (many g) d = Begins.in_right d
+begun_else f (when p g h) d = Begins.in_right d
+begun_else f (loop p g) d = Begins.in_right d
+
+begun_first : (p : Test) (f g : Form) {s : Scopes} {ts rest : List Terminal} → passes p s ts ≡ true → Begins c_language f s ts rest → Begins c_language (open_choice p f g) s ts rest
+unfolding open_choice
+begun_first test.HasParameters f g b d = Begins.in_chosen b d
+begun_first _ f g b d = begun_either f g d
+
+begun_second : (p : Test) (f g : Form) {s : Scopes} {ts rest : List Terminal} → passes p s ts ≡ false → Begins c_language g s ts rest → Begins c_language (open_choice p f g) s ts rest
+unfolding open_choice
+begun_second test.HasParameters f g b d = Begins.in_other b d
+begun_second _ f g b d = begun_else f g d
+
+pub forget_begun : {f : Form} {s : Scopes} {ts rest : List Terminal} → Begins parsed f s ts rest → Begins c_language (untested f) s ts rest
+unfolding untested
+forget_begun Begins.yet = Begins.yet
+forget_begun (Begins.in_word e) = Begins.in_word e
+forget_begun {f = rule n} {s = s} {ts = ts} {rest = rest} (Begins.in_rule d) = Begins.in_rule (subst (λ g. Begins c_language g s ts rest) (same_table n) (forget_begun d))
+forget_begun (Begins.in_first d) = Begins.in_first (forget_begun d)
+forget_begun (Begins.in_then d e) = Begins.in_then (forget d) (forget_begun e)
+forget_begun (Begins.in_left d) = Begins.in_left (forget_begun d)
+forget_begun (Begins.in_right d) = Begins.in_right (forget_begun d)
+forget_begun (Begins.in_maybe d) = Begins.in_maybe (forget_begun d)
+forget_begun (Begins.in_turn d) = Begins.in_turn (forget_begun d)
+forget_begun (Begins.in_later d e) = Begins.in_later (forget d) (forget_begun e)
+forget_begun (Begins.in_chosen b d) = begun_first _ _ _ b (forget_begun d)
+forget_begun (Begins.in_other b d) = begun_second _ _ _ b (forget_begun d)
+forget_begun (Begins.in_again _ d) = Begins.in_turn (forget_begun d)
+forget_begun (Begins.in_further _ d e) = Begins.in_later (forget d) (forget_begun e)
+
+pub forget_unit : (ts : List Terminal) (xs : List Tree) (new : Scopes) (rest : List Terminal) → Derives parsed (rule r.Unit) start ts xs new rest → Derives c_language (rule r.Unit) start ts xs new rest
+unfolding untested
+forget_unit ts xs new rest d = forget d
+
+pub forget_begun_unit : (ts rest : List Terminal) → Begins parsed (rule r.Unit) start ts rest → Begins c_language (rule r.Unit) start ts rest
+unfolding untested
+forget_begun_unit ts rest d = forget_begun d

@@ -1,0 +1,255 @@
+-- What the parser asks of the tokens ahead, and the language of its own table.
+use Rattle.std.specs.Prelude.{ℕ, ◌+◌, ◌-◌, Bool, true, false, not, ◌&&◌, ◌||◌, ◌==◌, if◌then◌else◌, List, [], ◌∷◌, Option, Some, None}
+use Rattle.c_model.specs.declared.grammar.Rule.{Rule}
+use Rattle.c_model.specs.declared.grammar.Rule.TheVariants as r
+use Rattle.c_model.specs.declared.grammar.Test.{Test}
+use Rattle.c_model.specs.declared.grammar.Test.TheVariants as test
+use Rattle.c_model.specs.declared.grammar.Terminal.{Terminal}
+use Rattle.c_model.specs.declared.grammar.Before.{Before}
+use Rattle.c_model.specs.declared.grammar.Before.TheVariants.{AtStart, BehindStar, BehindQualifier, Inside}
+use Rattle.c_model.specs.declared.grammar.Within.{Within}
+use Rattle.c_model.specs.declared.grammar.Within.TheVariants.{Between, BehindHead, BehindTag, BehindTypeof, Attribute, Group}
+use Rattle.c_model.specs.Terminals as k
+use Rattle.c_model.specs.GrammarForm.{mem}
+use Rattle.c_model.specs.NameScopes.{Scopes, kind, fresh, is_opening, is_closing, is_type}
+use Rattle.c_model.specs.Derivation.{Language}
+use Rattle.c_model.specs.SyntaxTree.{c_language, has_parameters}
+use Rattle.c_model.specs.ParserTable.{table}
+use Rattle.c_model.specs.ParserSets.{firsts}
+
+-- the first token is of this kind
+abbrev pub sees : ℕ → List Terminal → Bool
+sees kind [] = false
+sees kind (t ∷ ts) = t.kind == kind
+
+abbrev pub sees_attribute : List Terminal → Bool
+sees_attribute (t ∷ u ∷ ts) = t.kind == k.OpenBracket && u.kind == k.OpenBracket
+sees_attribute ts = false
+
+-- the first token may begin the nonterminal
+abbrev pub may_come : Rule → Scopes → List Terminal → Bool
+may_come rule s [] = false
+may_come rule s (t ∷ ts) = mem (kind s t) (firsts rule)
+
+abbrev pub sees_name : Scopes → List Terminal → Bool
+sees_name s [] = false
+sees_name s (t ∷ ts) = kind s t == k.Name
+
+-- what is behind the bracket that closes the first of the n that are open
+unfoldable pub past_brackets : ℕ → List Terminal → List Terminal
+past_brackets n [] = []
+past_brackets n (t ∷ ts) = if is_opening t.kind then past_brackets (n + 1) ts else if is_closing t.kind then (if n == 1 then ts else past_brackets (n - 1) ts) else past_brackets n ts
+
+-- what is behind the attributes that come next, of which n brackets are open
+unfoldable pub past_attributes : ℕ → List Terminal → List Terminal
+past_attributes n [] = []
+past_attributes n (t ∷ ts) = if n == 0 && not (sees_attribute (t ∷ ts)) then t ∷ ts else if is_opening t.kind then past_attributes (n + 1) ts else if is_closing t.kind then past_attributes (n - 1) ts else past_attributes n ts
+
+-- a type name begins with the token, where no type specifier precedes it
+abbrev pub begins_type : Scopes → Terminal → Bool
+begins_type s t = mem (kind (record s { reading = fresh }) t) (firsts r.Squals)
+
+-- `(` and the first token of a type name
+abbrev pub sees_type_name : Scopes → List Terminal → Bool
+sees_type_name s (t ∷ u ∷ ts) = t.kind == k.OpenParenthesis && begins_type s u
+sees_type_name s ts = false
+
+-- a typedef name there is the name of the declarator
+abbrev pub declares : Before → Bool
+declares (AtStart typed) = typed
+declares _ = true
+
+-- the token is the name of the declarator
+abbrev pub is_name : Before → Scopes → Terminal → Bool
+is_name before s t = t.kind == k.Name && (not (is_type s.entries t.name) || declares before)
+
+abbrev pub is_qualifier : ℕ → Bool
+is_qualifier kind = mem kind (firsts r.Qual)
+
+-- the brackets that are open
+abbrev pub opened : Before → ℕ
+opened (Inside n) = n
+opened _ = 0
+
+-- behind a token inside an attribute
+abbrev pub inside_step : ℕ → ℕ → Before
+inside_step n kind = if is_opening kind then Inside (n + 1) else if not (is_closing kind) then Inside n else if n == 1 then BehindStar else Inside (n - 1)
+
+-- behind another token: `*`, `(`, a qualifier where a `*` stands before, or an attribute directly behind `*`
+abbrev pub outside_step : Bool → Bool → ℕ → Bool → Option Before
+outside_step is_behind is_star kind is_attribute =
+    if kind == k.Star then Some BehindStar
+    else if kind == k.OpenParenthesis then Some (AtStart false)
+    else if is_behind && is_qualifier kind then Some BehindQualifier
+    else if is_star && is_attribute then Some (Inside 1)
+    else None
+
+-- where what is behind a token of a declarator stands, unless the token is a name or begins something else; whether an
+-- attribute begins with it
+unfoldable pub declarator_step : Before → ℕ → Bool → Option Before
+declarator_step (Inside n) kind is_attribute = Some (inside_step n kind)
+declarator_step (AtStart typed) kind is_attribute = outside_step false false kind is_attribute
+declarator_step BehindStar kind is_attribute = outside_step true true kind is_attribute
+declarator_step BehindQualifier kind is_attribute = outside_step true false kind is_attribute
+
+abbrev pub goes_on : {A B : Type 0} → Option A → (A → B) → B → B
+goes_on (Some place) more found = more place
+goes_on None more found = found
+
+-- behind any `*`, attributes, qualifiers and `(` stands the name of a declarator, or the tokens end
+unfoldable pub names_declarator : Before → Scopes → List Terminal → Bool
+names_declarator before s [] = true
+names_declarator before s (t ∷ ts) = goes_on (declarator_step before t.kind (sees_attribute (t ∷ ts))) (λ next. names_declarator next s ts) (is_name before s t)
+
+-- an abstract declarator begins with a token of this kind, where no attribute does
+abbrev pub opens_abstract : ℕ → Bool → Bool
+opens_abstract kind no_attribute = kind == k.Star || kind == k.OpenParenthesis || kind == k.OpenBracket && no_attribute
+
+-- a `(` that opens an abstract declarator, and no list of parameters
+abbrev pub sees_abstract : List Terminal → Bool
+sees_abstract (t ∷ u ∷ []) = t.kind == k.OpenParenthesis && opens_abstract u.kind true
+sees_abstract (t ∷ u ∷ v ∷ ts) = t.kind == k.OpenParenthesis && opens_abstract u.kind (not (v.kind == k.OpenBracket))
+sees_abstract ts = false
+
+-- `,`, and no token of this kind behind it
+abbrev pub sees_comma_without : ℕ → List Terminal → Bool
+sees_comma_without kind (t ∷ ts) = t.kind == k.Comma && not (sees kind ts)
+sees_comma_without kind [] = false
+
+abbrev pub sees_enumerator : Scopes → List Terminal → Bool
+sees_enumerator s (t ∷ ts) = t.kind == k.Comma && sees_name s ts
+sees_enumerator s [] = false
+
+abbrev pub sees_assertion : List Terminal → Bool
+sees_assertion ts = sees k.StaticAssert ts || sees k.OldStaticAssert ts
+
+-- attributes with nothing but `;` behind them
+abbrev pub sees_attributes_alone : List Terminal → Bool
+sees_attributes_alone ts = sees_attribute ts && sees k.Semicolon (past_attributes 0 ts)
+
+abbrev pub specifies : Scopes → List Terminal → Bool
+specifies s ts = may_come r.Specs s (past_attributes 0 ts)
+
+abbrev pub sees_label : List Terminal → Bool
+sees_label ts = sees k.Case ts || sees k.Default ts
+
+abbrev pub sees_cast : Scopes → List Terminal → Bool
+sees_cast s ts = sees_type_name s ts && not (sees k.OpenBrace (past_brackets 0 ts))
+
+-- the brackets that are open
+abbrev pub within : Within → ℕ
+within (Attribute n) = n
+within (Group n) = n
+within _ = 0
+
+abbrev pub type_words : List ℕ
+type_words = k.Void ∷ k.Char ∷ k.Short ∷ k.Int ∷ k.Long ∷ k.Signed ∷ k.Unsigned ∷ k.Bool ∷ k.OldBool ∷ []
+
+abbrev pub is_type_word : ℕ → Bool
+is_type_word kind = mem kind type_words
+
+-- behind a word of a specifier
+abbrev pub behind_word : Bool → ℕ → Within
+behind_word typed kind =
+    if kind == k.Struct || kind == k.Enum then BehindHead
+    else if kind == k.Typeof || kind == k.TypeofUnqual then BehindTypeof
+    else Between (typed || is_type_word kind)
+
+-- behind a word that begins a specifier, or `:`, or the end of the specifiers
+abbrev pub behind_specifier : Bool → ℕ → Option Within
+behind_specifier typed kind = if kind == k.Colon then Some (Between false) else if mem kind (firsts r.Specs) then Some (behind_word typed kind) else None
+
+-- behind the braces or the type of a struct or an enumeration
+abbrev pub behind_braces : ℕ → Option Within → Option Within
+behind_braces kind others = if kind == k.OpenBrace then Some (Group 1) else others
+
+-- behind what follows `struct` or `enum`
+abbrev pub head_step : ℕ → Option Within
+head_step kind = if kind == k.Name then Some BehindTag else if kind == k.OpenBracket then Some (Attribute 1) else behind_braces kind (behind_specifier true kind)
+
+-- between two specifiers: an identifier that is no typedef name, or stands behind a type specifier, ends them, and so
+-- does `{` where no enumeration with a type can take it
+abbrev pub between_step : Bool → Bool → Scopes → Terminal → Option Within
+between_step fixed typed s t =
+    if t.kind == k.Name then (if typed || not (is_type s.entries t.name) then None else Some (Between true))
+    else if fixed && t.kind == k.OpenBrace then Some (Group 1)
+    else behind_specifier typed t.kind
+
+abbrev pub brackets : Bool → ℕ → Within
+brackets is_attribute n = if is_attribute then Attribute n else Group n
+
+-- in brackets
+abbrev pub bracket_step : Bool → ℕ → ℕ → Within
+bracket_step is_attribute n kind =
+    if is_opening kind then brackets is_attribute (n + 1)
+    else if not (is_closing kind) then brackets is_attribute n
+    else if n == 1 then (if is_attribute then BehindHead else Between true)
+    else brackets is_attribute (n - 1)
+
+-- where what is behind a token among the specifiers of a declaration stands, unless they have ended before it
+unfoldable pub specifier_step : Bool → Within → Scopes → Terminal → Option Within
+specifier_step fixed (Between typed) s t = between_step fixed typed s t
+specifier_step fixed BehindHead s t = head_step t.kind
+specifier_step fixed BehindTag s t = if t.kind == k.Name then None else behind_braces t.kind (behind_specifier true t.kind)
+specifier_step fixed BehindTypeof s t = if t.kind == k.OpenParenthesis then Some (Group 1) else None
+specifier_step fixed (Attribute n) s t = Some (bracket_step true n t.kind)
+specifier_step fixed (Group n) s t = Some (bracket_step false n t.kind)
+
+-- the `:` before the type of an enumeration
+abbrev pub is_type_colon : Within → ℕ → Bool
+is_type_colon place kind = within place == 0 && kind == k.Colon
+
+-- what is behind the specifiers; whether one of them is an enumeration with a type
+unfoldable pub past_specifiers : Bool → Within → Scopes → List Terminal → List Terminal
+past_specifiers fixed place s [] = []
+past_specifiers fixed place s (t ∷ ts) = goes_on (specifier_step fixed place s t) (λ next. past_specifiers (fixed || is_type_colon place t.kind) next s ts) (t ∷ ts)
+
+-- a token of a declarator, outside brackets
+abbrev pub is_in_declarator : ℕ → Bool
+is_in_declarator kind = kind == k.Name || kind == k.Star || is_qualifier kind
+
+-- the token ends a declarator of which so many brackets are open
+abbrev pub ends_declarator : ℕ → ℕ → Bool
+ends_declarator n kind = n == 0 && not (kind == k.OpenParenthesis) && not (kind == k.OpenBracket) && not (is_in_declarator kind)
+
+-- what is behind the declarator, of which n brackets are open
+unfoldable pub past_declarator : ℕ → List Terminal → List Terminal
+past_declarator n [] = []
+past_declarator n (t ∷ ts) = if ends_declarator n t.kind then t ∷ ts else if is_opening t.kind then past_declarator (n + 1) ts else if is_closing t.kind then past_declarator (n - 1) ts else past_declarator n ts
+
+-- behind attributes, specifiers and a declarator stands `{`
+abbrev pub sees_function : Scopes → List Terminal → Bool
+sees_function s ts = specifies s ts && sees k.OpenBrace (past_declarator 0 (past_specifiers false (Between false) s (past_attributes 0 ts)))
+
+-- behind the tag of an enumeration
+abbrev pub sees_enumerators : Scopes → List Terminal → Bool
+sees_enumerators s (t ∷ ts) = t.kind == k.OpenBrace || t.kind == k.Colon && sees k.OpenBrace (past_specifiers false (Between false) s ts)
+sees_enumerators s [] = false
+
+abbrev pub has_enumerators : Scopes → List Terminal → Bool
+has_enumerators s (t ∷ ts) = not (t.kind == k.Name) || sees_enumerators s ts
+has_enumerators s [] = true
+
+abbrev pub passes : Test → Scopes → List Terminal → Bool
+passes test.HasParameters s ts = has_parameters s.reading.held
+passes test.FunctionAhead s ts = sees_function s ts
+passes test.SpecifiersAhead s ts = not (sees_assertion ts || sees_attributes_alone ts)
+passes test.AttributeAhead s ts = sees_attribute ts
+passes test.TypeAhead s ts = may_come r.Squals s ts
+passes test.BraceAhead s ts = sees k.OpenBrace ts
+passes test.EnumeratorsAhead s ts = has_enumerators s ts
+passes test.EnumeratorAhead s ts = sees_enumerator s ts
+passes test.ParameterAhead s ts = sees_comma_without k.Ellipsis ts
+passes test.ItemAhead s ts = sees_comma_without k.CloseBrace ts
+passes test.DeclaratorAhead s ts = names_declarator (AtStart s.reading.typed) s ts
+passes test.AbstractAhead s ts = sees_abstract ts
+passes test.DeclarationAhead s ts = sees_assertion ts || sees_attributes_alone ts || specifies s ts
+passes test.LabelAhead s ts = sees_label (past_attributes 0 ts)
+passes test.CastAhead s ts = sees_cast s ts
+passes test.OperandAhead s ts = not (sees_cast s ts)
+passes test.ParenthesizedExpression s ts = not (sees_type_name s ts)
+passes test.ElseAhead s ts = sees k.Else ts
+
+-- the language of the parser's table
+abbrev pub parsed : Language
+parsed = record c_language { test = passes; body = table }

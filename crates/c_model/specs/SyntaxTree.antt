@@ -1,0 +1,37 @@
+-- The trees of the grammar, and the language that the grammar gives: its trees are the derivations.
+use Rattle.std.specs.Prelude.{Bool, true, false, List, Option, Some, None}
+use Rattle.c_model.specs.declared.grammar.Test.{Test}
+use Rattle.c_model.specs.declared.grammar.Test.TheVariants as test
+use Rattle.c_model.specs.declared.grammar.Terminal.{Terminal}
+use Rattle.c_model.specs.declared.grammar.Entry.{Entry}
+use Rattle.c_model.specs.declared.grammar.Tree.{Tree}
+use Rattle.c_model.specs.declared.grammar.Tree.TheVariants as tree
+use Rattle.c_model.specs.NameScopes.{Scopes, kind, after, close}
+use Rattle.c_model.specs.Derivation.{Language}
+use Rattle.c_model.specs.Grammar.{grammar, is_part}
+
+-- a function's parameters stand next to the name that is declared, or to the missing name of a type name
+abbrev pub has_parameters : Option (List Entry) → Bool
+has_parameters (Some entries) = true
+has_parameters None = false
+
+-- the one test of the grammar, which asks the scopes alone
+abbrev pub asks : Test → Scopes → List Terminal → Bool
+asks test.HasParameters s ts = has_parameters s.reading.held
+asks _ s ts = false
+
+-- the language of translation units (ISO/IEC 9899:2024, 6.9)
+abbrev pub c_language : Language
+c_language = record {
+  State = Scopes;
+  Token = Terminal;
+  Tree = Tree;
+  leaf = tree.Leaf;
+  node = tree.Node;
+  kind = kind;
+  after = after;
+  close = close;
+  test = asks;
+  is_part = is_part;
+  body = grammar;
+}

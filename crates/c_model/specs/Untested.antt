@@ -1,0 +1,26 @@
+-- A table without its tests of the tokens ahead: both alternatives stand where such a test chooses. A test of the
+-- scopes alone stays.
+use Rattle.c_model.specs.declared.grammar.Test.{Test}
+use Rattle.c_model.specs.declared.grammar.Test.TheVariants as test
+use Rattle.c_model.specs.GrammarForm.{Form, word, rule, empty, ◌then◌, ◌or◌, maybe, many, when, loop}
+
+-- either, where the second may be nothing
+unfoldable pub either : Form → Form → Form
+either f empty = maybe f
+either f g = f or g
+
+-- what a test chose between
+unfoldable pub open_choice : Test → Form → Form → Form
+open_choice test.HasParameters f g = when test.HasParameters f g
+open_choice _ f g = either f g
+
+unfoldable pub untested : Form → Form
+untested (word ks a) = word ks a
+untested (rule r) = rule r
+untested empty = empty
+untested (f then g) = untested f then untested g
+untested (f or g) = untested f or untested g
+untested (maybe f) = maybe (untested f)
+untested (many f) = many (untested f)
+untested (when p f g) = open_choice p (untested f) (untested g)
+untested (loop p f) = many (untested f)

@@ -1,0 +1,56 @@
+//! The laws of the grammar: each is the contract of a function that does nothing.
+ghost use Rattle.std.specs.Prelude.{◌≡◌, true, List};
+ghost use Rattle.c_model.specs.declared.grammar.Rule.{Rule};
+ghost use Rattle.c_model.specs.declared.grammar.Rule.TheVariants as r;
+ghost use Rattle.c_model.specs.declared.grammar.Terminal.{Terminal};
+ghost use Rattle.c_model.specs.declared.grammar.Tree.{Tree};
+ghost use Rattle.c_model.specs.DecidedTable.{table_decided};
+ghost use Rattle.c_model.specs.Derivation.{Derives, Begins};
+ghost use Rattle.c_model.specs.GrammarForm.{rule};
+ghost use Rattle.c_model.specs.NameScopes.{Scopes, start};
+ghost use Rattle.c_model.specs.SyntaxTree.{c_language};
+ghost use Rattle.c_model.specs.Grammar.{grammar};
+ghost use Rattle.c_model.specs.OpenPrimary.{open_primary};
+ghost use Rattle.c_model.specs.Untested.{untested};
+ghost use Rattle.c_model.specs.ParserSets.{tables};
+ghost use Rattle.c_model.specs.ParserTable.{table};
+ghost use Rattle.c_model.specs.ParserTests.{parsed};
+ghost use Rattle.c_model.specs.ParserWalk.{IsQuiet};
+
+/// One token, or a test, decides each choice of the parser's table.
+#[tactic(auto, using(crate::proofs::ParserDecided::checked))]
+pub fn table_is_decided()
+    ensures { (rule : Rule) → table_decided tables rule (table rule) ≡ true }
+{}
+
+/// The end of a nonterminal changes the kind of no token that decides whether it has ended.
+#[tactic(auto, using(crate::proofs::ParserDecided::quiet))]
+pub fn ends_are_quiet()
+    ensures { IsQuiet tables parsed }
+{}
+
+/// What the parser's table derives, with its tests of the tokens ahead, the grammar derives, as the same trees.
+#[tactic(auto, using(crate::proofs::Forget::forget_unit))]
+pub fn parsed_is_derived()
+    ensures { (ts : List Terminal) (xs : List Tree) (new : Scopes) (rest : List Terminal) → Derives parsed (rule r.Unit) start ts xs new rest → Derives c_language (rule r.Unit) start ts xs new rest }
+{}
+
+/// What the parser's table begins, the grammar begins.
+#[tactic(auto, using(crate::proofs::Forget::forget_begun_unit))]
+pub fn parsed_front_is_begun()
+    ensures { (ts rest : List Terminal) → Begins parsed (rule r.Unit) start ts rest → Begins c_language (rule r.Unit) start ts rest }
+{}
+
+/// The parser's table without its tests of the tokens ahead is the grammar.
+#[tactic(auto, using(crate::proofs::Forget::same_table))]
+pub fn untested_table_is_grammar()
+    ensures { (rule : Rule) → untested (table rule) ≡ grammar rule }
+{
+}
+
+/// The test at the parenthesis of a primary expression loses no derivation.
+#[tactic(auto, using(crate::proofs::RegainPrimary::regain_unit))]
+pub fn primary_test_loses_nothing()
+    ensures { (ts : List Terminal) (xs : List Tree) (new : Scopes) (rest : List Terminal) → Derives open_primary (rule r.Unit) start ts xs new rest → Derives parsed (rule r.Unit) start ts xs new rest }
+{
+}

@@ -1,0 +1,4 @@
+pub mod TestSteps
+pub mod RuleWeights
+pub mod ReaderSteps
+pub mod Parsed

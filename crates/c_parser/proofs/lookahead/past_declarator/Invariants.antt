@@ -1,0 +1,9 @@
+use Rattle.std.specs.Prelude.{◌≡◌, ◌≤◌, ◌+◌, length}
+use Rattle.c_model.specs.ParserTests.{past_declarator}
+use Rattle.c_parser.proofs.lookahead.past_declarator.Given as goal
+
+abbrev pub invariant-loop-first : goal.invariant-loop-first
+invariant-loop-first l = (past_declarator l.depth l.rest ≡ past_declarator 0 l.tokens) × (l.depth + length l.rest ≤ length l.tokens)
+
+abbrev pub decreases-loop-first : goal.decreases-loop-first
+decreases-loop-first l = length l.rest

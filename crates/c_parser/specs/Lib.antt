@@ -1,0 +1,4 @@
+pub mod View
+pub mod Weight
+pub mod Reading
+pub mod Parsing

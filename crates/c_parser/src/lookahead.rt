@@ -1,0 +1,573 @@
+//! What the parser asks of the tokens ahead.
+
+ghost use Rattle.std.specs.Prelude.{◌≡◌, ◌∷◌, [], true, false, ◌+◌, ◌<◌, ◌≤◌, ◌^◌, ◌&&◌, ◌||◌, not, IfSome, MatchOption};
+ghost use Rattle.c_model.specs.ParserTests as spec;
+ghost use Rattle.c_model.specs.declared.grammar.Before.TheVariants as before;
+ghost use Rattle.c_model.specs.declared.grammar.Within.TheVariants as within;
+
+use crate::kinds;
+use crate::names::{Names, is_closing, is_opening};
+use crate::sets::may_begin;
+use c_model::grammar::{Before, Rule, Terminal, Test, Within};
+
+/// The first token, and those behind it.
+pub fn split(tokens: &[Terminal]) -> Option<(Terminal, &[Terminal])>
+    ensures { MatchOption result (tokens.now ≡ []) (λ p. tokens.now ≡ p.0 ∷ p.1.now) }
+{
+    match tokens {
+        [first, rest @ ..] => Some((*first, rest)),
+        [] => None,
+    }
+}
+
+/// Whether the first token is of this kind.
+fn sees(kind: u8, tokens: &[Terminal]) -> bool
+    ensures { result ≡ spec.sees kind tokens.now }
+{
+    match tokens {
+        [first, ..] => first.kind == kind,
+        [] => false,
+    }
+}
+
+/// Whether an attribute comes next.
+fn sees_attribute(tokens: &[Terminal]) -> bool
+    ensures { result ≡ spec.sees_attribute tokens.now }
+{
+    match tokens {
+        [first, second, ..] => {
+            first.kind == kinds::OPEN_BRACKET && second.kind == kinds::OPEN_BRACKET
+        }
+        _ => false,
+    }
+}
+
+/// Whether the first token may begin the nonterminal.
+fn may_come(rule: Rule, names: &Names, tokens: &[Terminal]) -> bool
+    ensures { result ≡ spec.may_come rule names.now tokens.now }
+{
+    match tokens {
+        [first, ..] => may_begin(rule, names.kind(*first)),
+        [] => false,
+    }
+}
+
+/// What is behind the bracket that closes the first.
+#[tactic(auto, unfolding(c_model::specs::ParserTests::past_brackets))]
+fn past_brackets(tokens: &[Terminal]) -> &[Terminal]
+    ensures { result.now ≡ spec.past_brackets 0 tokens.now }
+{
+    let mut rest = tokens;
+    let mut depth: usize = 0;
+    while let Some((first, more)) = split(rest) {
+        rest = more;
+        if is_opening(first.kind) {
+            depth += 1;
+        } else if is_closing(first.kind) {
+            if depth == 1 {
+                return rest;
+            }
+            depth = depth.saturating_sub(1);
+        }
+    }
+    rest
+}
+
+/// What is behind the attributes that come next.
+#[tactic(auto, unfolding(c_model::specs::ParserTests::past_attributes))]
+fn past_attributes(tokens: &[Terminal]) -> &[Terminal]
+    ensures { result.now ≡ spec.past_attributes 0 tokens.now }
+{
+    let mut rest = tokens;
+    let mut depth: usize = 0;
+    while let Some((first, more)) = split(rest) {
+        if depth == 0 && !sees_attribute(rest) {
+            return rest;
+        }
+        rest = more;
+        if is_opening(first.kind) {
+            depth += 1;
+        } else if is_closing(first.kind) {
+            depth = depth.saturating_sub(1);
+        }
+    }
+    rest
+}
+
+/// Whether an identifier comes next that is no typedef name.
+fn sees_name(names: &Names, tokens: &[Terminal]) -> bool
+    ensures { result ≡ spec.sees_name names.now tokens.now }
+{
+    match tokens {
+        [first, ..] => names.kind(*first) == kinds::NAME,
+        [] => false,
+    }
+}
+
+/// Whether the token is the name of the declarator.
+fn is_name(before: Before, names: &Names, token: Terminal) -> bool
+    ensures { result ≡ spec.is_name before names.now token }
+{
+    token.kind == kinds::NAME && (!names.names_type(token.name) || declares(before))
+}
+
+/// Whether a typedef name there is the name of the declarator.
+fn declares(before: Before) -> bool
+    ensures { result ≡ spec.declares before }
+{
+    match before {
+        Before::AtStart(typed) => typed,
+        Before::BehindStar | Before::BehindQualifier | Before::Inside(_) => true,
+    }
+}
+
+/// What stands behind a token inside an attribute of a declarator.
+fn inside_step(depth: usize, kind: u8) -> Before
+    requires { depth < 2 ^ 63 }
+    ensures place { result ≡ spec.inside_step depth kind }
+    ensures grown { spec.opened result ≤ depth + 1 }
+{
+    if is_opening(kind) {
+        Before::Inside(depth + 1)
+    } else if !is_closing(kind) {
+        Before::Inside(depth)
+    } else if depth == 1 {
+        Before::BehindStar
+    } else {
+        Before::Inside(depth.saturating_sub(1))
+    }
+}
+
+/// Where what is behind the first token of a declarator stands, outside attributes.
+fn outside_step(is_behind: bool, is_star: bool, kind: u8, is_attribute: bool) -> Option<Before>
+    ensures place { result ≡ spec.outside_step is_behind is_star kind is_attribute }
+    ensures grown { IfSome result (λ next. spec.opened next ≤ 1) }
+{
+    if kind == kinds::STAR {
+        Some(Before::BehindStar)
+    } else if kind == kinds::OPEN_PARENTHESIS {
+        Some(Before::AtStart(false))
+    } else if is_behind && may_begin(Rule::Qual, kind) {
+        Some(Before::BehindQualifier)
+    } else if is_star && is_attribute {
+        Some(Before::Inside(1))
+    } else {
+        None
+    }
+}
+
+/// Where what is behind the first token of a declarator stands.
+#[tactic(auto, unfolding(c_model::specs::ParserTests::declarator_step))]
+fn declarator_step(before: Before, kind: u8, is_attribute: bool) -> Option<Before>
+    requires { spec.opened before < 2 ^ 63 }
+    ensures place { result ≡ spec.declarator_step before kind is_attribute }
+    ensures grown { IfSome result (λ next. spec.opened next ≤ spec.opened before + 1) }
+{
+    match before {
+        Before::Inside(depth) => Some(inside_step(depth, kind)),
+        Before::AtStart(_) => outside_step(false, false, kind, is_attribute),
+        Before::BehindStar => outside_step(true, true, kind, is_attribute),
+        Before::BehindQualifier => outside_step(true, false, kind, is_attribute),
+    }
+}
+
+/// Whether behind any `*`, attributes, qualifiers and `(` stands the name of a declarator, or the tokens end.
+#[tactic(auto, unfolding(c_model::specs::ParserTests::names_declarator))]
+fn names_declarator(names: &Names, tokens: &[Terminal]) -> bool
+    ensures { result ≡ spec.names_declarator (before.AtStart names.now.reading.typed) names.now tokens.now }
+{
+    let mut rest = tokens;
+    let mut before = Before::AtStart(names.is_typed());
+    while let Some((first, more)) = split(rest) {
+        match declarator_step(before, first.kind, sees_attribute(rest)) {
+            Some(next) => before = next,
+            None => return is_name(before, names, first),
+        }
+        rest = more;
+    }
+    true
+}
+
+/// Whether a parenthesis round an abstract declarator comes next.
+fn sees_abstract(tokens: &[Terminal]) -> bool
+    ensures { result ≡ spec.sees_abstract tokens.now }
+{
+    match tokens {
+        [first, second] => {
+            first.kind == kinds::OPEN_PARENTHESIS && opens_abstract(second.kind, true)
+        }
+        [first, second, third, ..] => {
+            first.kind == kinds::OPEN_PARENTHESIS
+                && opens_abstract(second.kind, third.kind != kinds::OPEN_BRACKET)
+        }
+        _ => false,
+    }
+}
+
+/// Whether an abstract declarator begins with a token of this kind, where no attribute does.
+fn opens_abstract(kind: u8, no_attribute: bool) -> bool
+    ensures { result ≡ spec.opens_abstract kind no_attribute }
+{
+    kind == kinds::STAR
+        || kind == kinds::OPEN_PARENTHESIS
+        || kind == kinds::OPEN_BRACKET && no_attribute
+}
+
+/// Whether `,` comes next, with no token of this kind behind it.
+fn sees_comma_without(kind: u8, tokens: &[Terminal]) -> bool
+    ensures { result ≡ spec.sees_comma_without kind tokens.now }
+{
+    match split(tokens) {
+        Some((first, rest)) => first.kind == kinds::COMMA && !sees(kind, rest),
+        None => false,
+    }
+}
+
+/// Whether `,` and an enumerator come next.
+fn sees_enumerator(names: &Names, tokens: &[Terminal]) -> bool
+    ensures { result ≡ spec.sees_enumerator names.now tokens.now }
+{
+    match split(tokens) {
+        Some((first, rest)) => first.kind == kinds::COMMA && sees_name(names, rest),
+        None => false,
+    }
+}
+
+/// Whether an assertion comes next.
+fn sees_assertion(tokens: &[Terminal]) -> bool
+    ensures { result ≡ spec.sees_assertion tokens.now }
+{
+    sees(kinds::STATIC_ASSERT, tokens) || sees(kinds::OLD_STATIC_ASSERT, tokens)
+}
+
+/// Whether attributes with nothing but `;` behind them come next.
+fn sees_attributes_alone(tokens: &[Terminal]) -> bool
+    ensures { result ≡ spec.sees_attributes_alone tokens.now }
+{
+    sees_attribute(tokens) && sees(kinds::SEMICOLON, past_attributes(tokens))
+}
+
+/// Whether a specifier stands behind the attributes that come next, if any.
+fn specifies(names: &Names, tokens: &[Terminal]) -> bool
+    ensures { result ≡ spec.specifies names.now tokens.now }
+{
+    may_come(Rule::Specs, names, past_attributes(tokens))
+}
+
+/// Whether `case` or `default` comes next.
+fn sees_label(tokens: &[Terminal]) -> bool
+    ensures { result ≡ spec.sees_label tokens.now }
+{
+    sees(kinds::CASE, tokens) || sees(kinds::DEFAULT, tokens)
+}
+
+/// Whether a type name begins with the token, where no type specifier precedes it.
+fn begins_type(names: &Names, token: Terminal) -> bool
+    ensures { result ≡ spec.begins_type names.now token }
+{
+    may_begin(Rule::Squals, names.fresh_kind(token))
+}
+
+/// Whether `(` and the first token of a type name come next.
+fn sees_type_name(names: &Names, tokens: &[Terminal]) -> bool
+    ensures { result ≡ spec.sees_type_name names.now tokens.now }
+{
+    match tokens {
+        [first, second, ..] => {
+            first.kind == kinds::OPEN_PARENTHESIS && begins_type(names, *second)
+        }
+        _ => false,
+    }
+}
+
+/// Whether a type name in parentheses comes next, and no `{` behind it.
+fn sees_cast(names: &Names, tokens: &[Terminal]) -> bool
+    ensures { result ≡ spec.sees_cast names.now tokens.now }
+{
+    sees_type_name(names, tokens) && !sees(kinds::OPEN_BRACE, past_brackets(tokens))
+}
+
+/// What is behind a token inside brackets, which the place `behind` follows.
+fn in_brackets(is_attribute: bool, depth: usize, kind: u8) -> Within
+    requires { depth < 2 ^ 63 }
+    ensures place { result ≡ spec.bracket_step is_attribute depth kind }
+    ensures grown { spec.within result ≤ depth + 1 }
+{
+    if is_opening(kind) {
+        brackets(is_attribute, depth + 1)
+    } else if !is_closing(kind) {
+        brackets(is_attribute, depth)
+    } else if depth == 1 {
+        if is_attribute {
+            Within::BehindHead
+        } else {
+            Within::Between(true)
+        }
+    } else {
+        brackets(is_attribute, depth.saturating_sub(1))
+    }
+}
+
+/// The place inside brackets of which so many are open.
+fn brackets(is_attribute: bool, depth: usize) -> Within
+    ensures place { result ≡ spec.brackets is_attribute depth }
+    ensures same { spec.within result ≡ depth }
+{
+    if is_attribute {
+        Within::Attribute(depth)
+    } else {
+        Within::Group(depth)
+    }
+}
+
+/// Whether the word is a type specifier by itself.
+#[tactic(auto, unfolding(c_model::specs::GrammarForm::mem))]
+fn is_type_word(kind: u8) -> bool
+    ensures { result ≡ spec.is_type_word kind }
+{
+    matches!(
+        kind,
+        kinds::VOID
+            | kinds::CHAR
+            | kinds::SHORT
+            | kinds::INT
+            | kinds::LONG
+            | kinds::SIGNED
+            | kinds::UNSIGNED
+            | kinds::BOOL
+            | kinds::OLD_BOOL
+    )
+}
+
+/// What is behind a word of a specifier.
+fn behind_word(typed: bool, kind: u8) -> Within
+    ensures place { result ≡ spec.behind_word typed kind }
+    ensures none { spec.within result ≡ 0 }
+{
+    if kind == kinds::STRUCT || kind == kinds::ENUM {
+        Within::BehindHead
+    } else if kind == kinds::TYPEOF || kind == kinds::TYPEOF_UNQUAL {
+        Within::BehindTypeof
+    } else {
+        Within::Between(typed || is_type_word(kind))
+    }
+}
+
+/// What is behind a word that begins a specifier, or `:`.
+fn behind_specifier(typed: bool, kind: u8) -> Option<Within>
+    ensures place { result ≡ spec.behind_specifier typed kind }
+    ensures none { IfSome result (λ next. spec.within next ≡ 0) }
+{
+    if kind == kinds::COLON {
+        Some(Within::Between(false))
+    } else if may_begin(Rule::Specs, kind) {
+        Some(behind_word(typed, kind))
+    } else {
+        None
+    }
+}
+
+/// What is behind a token that follows a tag, or stands in its place.
+fn behind_braces(kind: u8) -> Option<Within>
+    ensures place { result ≡ spec.behind_braces kind (spec.behind_specifier true kind) }
+    ensures grown { IfSome result (λ next. spec.within next ≤ 1) }
+{
+    if kind == kinds::OPEN_BRACE {
+        Some(Within::Group(1))
+    } else {
+        behind_specifier(true, kind)
+    }
+}
+
+/// What is behind a token that follows `struct` or `enum`.
+fn behind_head(kind: u8) -> Option<Within>
+    ensures place { result ≡ spec.head_step kind }
+    ensures grown { IfSome result (λ next. spec.within next ≤ 1) }
+{
+    if kind == kinds::NAME {
+        Some(Within::BehindTag)
+    } else if kind == kinds::OPEN_BRACKET {
+        Some(Within::Attribute(1))
+    } else {
+        behind_braces(kind)
+    }
+}
+
+/// What is behind a token between two specifiers.
+fn between_step(fixed: bool, typed: bool, names: &Names, token: Terminal) -> Option<Within>
+    ensures place { result ≡ spec.between_step fixed typed names.now token }
+    ensures grown { IfSome result (λ next. spec.within next ≤ 1) }
+{
+    if token.kind != kinds::NAME {
+        if fixed && token.kind == kinds::OPEN_BRACE {
+            Some(Within::Group(1))
+        } else {
+            behind_specifier(typed, token.kind)
+        }
+    } else if typed || !names.names_type(token.name) {
+        None
+    } else {
+        Some(Within::Between(true))
+    }
+}
+
+/// Where what is behind a token among the specifiers of a declaration stands.
+#[tactic(auto, unfolding(c_model::specs::ParserTests::specifier_step))]
+fn specifier_step(fixed: bool, place: Within, names: &Names, token: Terminal) -> Option<Within>
+    requires { spec.within place < 2 ^ 63 }
+    ensures place { result ≡ spec.specifier_step fixed place names.now token }
+    ensures grown { IfSome result (λ next. spec.within next ≤ spec.within place + 1) }
+{
+    match place {
+        Within::Between(typed) => between_step(fixed, typed, names, token),
+        Within::BehindHead => behind_head(token.kind),
+        Within::BehindTag => {
+            if token.kind == kinds::NAME {
+                None
+            } else {
+                behind_braces(token.kind)
+            }
+        }
+        Within::BehindTypeof => {
+            if token.kind == kinds::OPEN_PARENTHESIS {
+                Some(Within::Group(1))
+            } else {
+                None
+            }
+        }
+        Within::Attribute(depth) => Some(in_brackets(true, depth, token.kind)),
+        Within::Group(depth) => Some(in_brackets(false, depth, token.kind)),
+    }
+}
+
+/// Whether the token is the `:` before the type of an enumeration, or one stood before.
+fn is_fixed(fixed: bool, place: Within, kind: u8) -> bool
+    ensures { result ≡ (fixed || spec.is_type_colon place kind) }
+{
+    let outside = match place {
+        Within::Attribute(depth) | Within::Group(depth) => depth == 0,
+        Within::Between(_) | Within::BehindHead | Within::BehindTag | Within::BehindTypeof => true,
+    };
+    fixed || outside && kind == kinds::COLON
+}
+
+/// What is behind the specifiers.
+#[tactic(auto, unfolding(c_model::specs::ParserTests::past_specifiers))]
+fn past_specifiers<'a>(names: &Names, tokens: &'a [Terminal]) -> &'a [Terminal]
+    ensures { result.now ≡ spec.past_specifiers false (within.Between false) names.now tokens.now }
+{
+    let mut rest = tokens;
+    let mut place = Within::Between(false);
+    let mut fixed = false;
+    while let Some((first, more)) = split(rest) {
+        let later = is_fixed(fixed, place, first.kind);
+        match specifier_step(fixed, place, names, first) {
+            Some(next) => place = next,
+            None => return rest,
+        }
+        fixed = later;
+        rest = more;
+    }
+    rest
+}
+
+/// Whether the token stands in a declarator, outside brackets.
+fn is_in_declarator(kind: u8) -> bool
+    ensures { result ≡ spec.is_in_declarator kind }
+{
+    kind == kinds::NAME || kind == kinds::STAR || may_begin(Rule::Qual, kind)
+}
+
+/// Whether the token ends a declarator of which so many brackets are open.
+fn ends_declarator(depth: usize, kind: u8) -> bool
+    ensures { result ≡ spec.ends_declarator depth kind }
+{
+    depth == 0
+        && kind != kinds::OPEN_PARENTHESIS
+        && kind != kinds::OPEN_BRACKET
+        && !is_in_declarator(kind)
+}
+
+/// What is behind the declarator.
+#[tactic(auto, unfolding(c_model::specs::ParserTests::past_declarator))]
+fn past_declarator(tokens: &[Terminal]) -> &[Terminal]
+    ensures { result.now ≡ spec.past_declarator 0 tokens.now }
+{
+    let mut rest = tokens;
+    let mut depth: usize = 0;
+    while let Some((first, more)) = split(rest) {
+        if ends_declarator(depth, first.kind) {
+            return rest;
+        }
+        rest = more;
+        if is_opening(first.kind) {
+            depth += 1;
+        } else if is_closing(first.kind) {
+            depth = depth.saturating_sub(1);
+        }
+    }
+    rest
+}
+
+/// Whether behind attributes, specifiers and a declarator stands `{`.
+fn sees_function(names: &Names, tokens: &[Terminal]) -> bool
+    ensures { result ≡ spec.sees_function names.now tokens.now }
+{
+    if !specifies(names, tokens) {
+        return false;
+    }
+    let declarator = past_specifiers(names, past_attributes(tokens));
+    sees(kinds::OPEN_BRACE, past_declarator(declarator))
+}
+
+/// Whether behind the tag of an enumeration, and behind its type, enumerators come.
+fn sees_enumerators(names: &Names, tokens: &[Terminal]) -> bool
+    ensures { result ≡ spec.sees_enumerators names.now tokens.now }
+{
+    match split(tokens) {
+        Some((first, rest)) => {
+            first.kind == kinds::OPEN_BRACE
+                || first.kind == kinds::COLON
+                    && sees(kinds::OPEN_BRACE, past_specifiers(names, rest))
+        }
+        None => false,
+    }
+}
+
+/// Whether enumerators come, or no tag.
+fn has_enumerators(names: &Names, tokens: &[Terminal]) -> bool
+    ensures { result ≡ spec.has_enumerators names.now tokens.now }
+{
+    match split(tokens) {
+        Some((first, rest)) => first.kind != kinds::NAME || sees_enumerators(names, rest),
+        None => true,
+    }
+}
+
+/// Whether the test holds.
+pub fn passes(test: Test, names: &Names, tokens: &[Terminal]) -> bool
+    ensures { result ≡ spec.passes test names.now tokens.now }
+{
+    match test {
+        Test::HasParameters => names.held().is_some(),
+        Test::FunctionAhead => sees_function(names, tokens),
+        Test::SpecifiersAhead => !(sees_assertion(tokens) || sees_attributes_alone(tokens)),
+        Test::AttributeAhead => sees_attribute(tokens),
+        Test::TypeAhead => may_come(Rule::Squals, names, tokens),
+        Test::BraceAhead => sees(kinds::OPEN_BRACE, tokens),
+        Test::EnumeratorsAhead => has_enumerators(names, tokens),
+        Test::EnumeratorAhead => sees_enumerator(names, tokens),
+        Test::ParameterAhead => sees_comma_without(kinds::ELLIPSIS, tokens),
+        Test::ItemAhead => sees_comma_without(kinds::CLOSE_BRACE, tokens),
+        Test::DeclaratorAhead => names_declarator(names, tokens),
+        Test::AbstractAhead => sees_abstract(tokens),
+        Test::DeclarationAhead => {
+            sees_assertion(tokens) || sees_attributes_alone(tokens) || specifies(names, tokens)
+        }
+        Test::LabelAhead => sees_label(past_attributes(tokens)),
+        Test::CastAhead => sees_cast(names, tokens),
+        Test::OperandAhead => !sees_cast(names, tokens),
+        Test::ParenthesizedExpression => !sees_type_name(names, tokens),
+        Test::ElseAhead => sees(kinds::ELSE, tokens),
+    }
+}

@@ -1,0 +1,50 @@
+//! The parsing of a translation unit.
+
+ghost use Rattle.c_parser.specs.Parsing.{Parsed};
+
+use crate::forms::Form;
+use crate::names::Names;
+use crate::reader::{Reader, Stop, read};
+use c_model::grammar::{Rule, Terminal, Tree};
+use sqlite_items::Items;
+use std::alloc::Global;
+
+/// Why there is no tree.
+#[derive(Clone, Copy, Debug, PartialEq, Eq)]
+pub enum Refusal {
+    /// There is no memory.
+    Memory,
+    /// The token of this rank stands in more than 1,000 nested parts.
+    Deep(usize),
+    /// S01: the token of this rank is the first with which no translation unit can go on; the number of tokens, where
+    /// they are the front of a unit and no unit.
+    Fault(usize),
+}
+
+const UNIT: &Form = &Form::Rule(Rule::Unit);
+
+/// How many parts may stand inside each other.
+const MAX_DEPTH: usize = 1000;
+
+/// The trees of a translation unit (ISO/IEC 9899:2024, 6.9), which are one, or why there is none.
+pub fn parse(alloc: Global, tokens: &[Terminal]) -> Result<Items<Tree>, Refusal>
+    ensures { Parsed tokens.now result }
+{
+    let mut reader = Reader {
+        rest: tokens,
+        names: Names::new(alloc),
+    };
+    let mut trees = Items::new(alloc);
+    match read(alloc, &mut reader, UNIT, MAX_DEPTH, &mut trees) {
+        Ok(()) => {
+            if reader.rest.is_empty() {
+                Ok(trees)
+            } else {
+                Err(Refusal::Fault(tokens.len() - reader.rest.len()))
+            }
+        }
+        Err(Stop::Fault) => Err(Refusal::Fault(tokens.len() - reader.rest.len())),
+        Err(Stop::Memory) => Err(Refusal::Memory),
+        Err(Stop::Deep) => Err(Refusal::Deep(tokens.len() - reader.rest.len())),
+    }
+}
