@@ -1,3 +1,11 @@
 pub mod Operations
 pub mod PpTokens
 pub mod Vocabulary
+pub mod Macros
+pub mod ReplacementLists
+pub mod MacroDefinitions
+pub mod HideSets
+pub mod MacroArguments
+pub mod Pasting
+pub mod Substitution
+pub mod Expansion

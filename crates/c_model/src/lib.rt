@@ -4,6 +4,7 @@
 //! shares with them, and the laws of the definitions.
 #![tactic(auto)]
 
+pub mod macros;
 pub mod numbers;
 pub mod outcomes;
 pub mod tokens;
