@@ -9,3 +9,7 @@ pub mod MacroArguments
 pub mod Pasting
 pub mod Substitution
 pub mod Expansion
+pub mod ExpansionSteps
+pub mod ExpansionRules
+pub mod ExpansionTotal
+pub mod ExpansionFunction
