@@ -1,12 +1,10 @@
 -- What a `#define` line means (ISO/IEC 9899:2024, 6.10.5, 6.10.5.1 to 6.10.5.4, 6.10.10).
-use Rattle.std.specs.Prelude.{ℕ, ◌+◌, Bool, true, false, ◌&&◌, ◌||◌, not, ◌==◌, if◌then◌else◌, List, [], ◌∷◌, Option, Some, None, is_some, Result, Ok, Err, codes}
+use Rattle.std.specs.Prelude.{ℕ, ◌+◌, Bool, true, false, ◌&&◌, ◌||◌, not, ◌==◌, if◌then◌else◌, List, [], ◌∷◌, ◌++◌, Option, Some, None, is_some, Result, Ok, Err, codes}
 use Rattle.std.specs.List.{list_any}
 use Rattle.std.specs.Option.{option_map}
 use Rattle.cake_base.specs.declared.places.Place.{Place}
 use Rattle.c_model.specs.declared.tokens.PpKind.{PpKind}
 use Rattle.c_model.specs.declared.tokens.PpKind.TheVariants.{Header, Name, Number, Character, Text, Punct, Other}
-use Rattle.c_model.specs.declared.macros.Role.{Role}
-use Rattle.c_model.specs.declared.macros.Role.TheVariants.{Plain, Paste, Replaced, Written, Quoted, Operand, Optional, QuotedOptional, OptionalOperand, Open, Close, File, Line}
 use Rattle.c_model.specs.declared.macros.Expected.{Expected}
 use Rattle.c_model.specs.declared.macros.Expected.TheVariants.{First, Item, Next, End}
 use Rattle.c_model.specs.PpTokens.{PpToken}
@@ -59,40 +57,45 @@ parameters Next (t ∷ ts) =
 parameters End (t ∷ ts) =
     if spells RIGHT t then Some (record { names = []; variadic = true; rest = ts }) else None
 
--- whether a name stands twice
-abbrev pub repeated : List (List ℕ) → Bool
-repeated [] = false
-repeated (n ∷ ns) = is_some (rank n ns) || repeated ns
+-- whether one of the names is among those before it, of which `seen` are the first
+abbrev pub repeated : List (List ℕ) → List (List ℕ) → Bool
+repeated seen [] = false
+repeated seen (n ∷ ns) = is_some (rank n seen) || repeated (seen ++ n ∷ []) ns
 
 -- ---- the line
 
--- what a line defines, before its replacement list is read
+-- a macro's name, the names of its parameters where it is like a function, and whether it takes
+-- variable arguments
 pub record Heading : Type 0 where
   pub name : List ℕ
   pub params : Option (List (List ℕ))
   pub variadic : Bool
+
+-- a heading, and the replacement list after it
+pub record Line : Type 0 where
+  pub heading : Heading
   pub body : List PpToken
 
-abbrev pub object : List ℕ → List PpToken → Heading
-object name body = record { name = name; params = None; variadic = false; body = body }
+abbrev pub object : List ℕ → List PpToken → Line
+object name body = record { heading = record { name = name; params = None; variadic = false }; body = body }
 
-abbrev pub like_function : List ℕ → Option Parameters → Option Heading
+abbrev pub like_function : List ℕ → Option Parameters → Option Line
 like_function name None = None
 like_function name (Some p) =
-    if repeated p.names then None
-    else Some (record { name = name; params = Some p.names; variadic = p.variadic; body = p.rest })
+    if repeated [] p.names then None
+    else Some (record { heading = record { name = name; params = Some p.names; variadic = p.variadic }; body = p.rest })
 
 -- A parenthesis directly after the name begins parameters; a space stands before any other body.
-abbrev pub after_name : List ℕ → List PpToken → Option Heading
+abbrev pub after_name : List ℕ → List PpToken → Option Line
 after_name name [] = Some (object name [])
 after_name name (t ∷ ts) =
     if t.space then Some (object name (t ∷ ts))
     else if spells LEFT t then like_function name (parameters First ts) else None
 
--- the heading of a line that is well formed
-abbrev pub heading : List PpToken → Option Heading
-heading [] = None
-heading (t ∷ ts) = if is_name t then after_name t.spelling ts else None
+-- the parts of a line that is well formed
+abbrev pub line_parts : List PpToken → Option Line
+line_parts [] = None
+line_parts (t ∷ ts) = if is_name t then after_name t.spelling ts else None
 
 -- ---- the constraints on a replacement list
 
@@ -130,12 +133,16 @@ misplaced variadic inside (p ∷ ps) =
 
 -- those names as parameters
 abbrev pub misnamed : List (List ℕ) → Bool
-misnamed names = list_any (λ n. same_text n VA_ARGS || same_text n VA_OPT) names
+misnamed names = is_some (rank VA_ARGS names) || is_some (rank VA_OPT names)
+
+-- the names of the predefined macros (6.10.10)
+abbrev pub predefined_name : List ℕ → Bool
+predefined_name name =
+    same_text name FILE || same_text name LINE || same_text name STDC || same_text name STDC_VERSION || same_text name STDC_HOSTED || same_text name CAKE
 
 -- the names that no directive may define (6.10.10.1)
 abbrev pub reserved : List ℕ → Bool
-reserved name = list_any (same_text name)
-    (codes "defined" ∷ VA_ARGS ∷ VA_OPT ∷ FILE ∷ LINE ∷ STDC ∷ STDC_VERSION ∷ STDC_HOSTED ∷ CAKE ∷ [])
+reserved name = same_text name (codes "defined") || same_text name VA_ARGS || same_text name VA_OPT || predefined_name name
 
 -- ---- the meaning
 
@@ -147,9 +154,9 @@ abbrev pub signature : Heading → Signature
 signature h = record { function = is_some h.params; names = names_of h.params; variadic = h.variadic }
 
 -- the number of the first rule of P03, P04, P08 and P09 that is broken
-abbrev pub broken_rule : Heading → List Piece → Option ℕ
-broken_rule h body =
-    if is_some h.params && lone_hash (signature h) h.body then Some 3
+abbrev pub broken_rule : Heading → List PpToken → List Piece → Option ℕ
+broken_rule h tokens body =
+    if is_some h.params && lone_hash (signature h) tokens then Some 3
     else if paste_at_edge true body then Some 4
     else if misnamed (names_of h.params) || misplaced h.variadic false body then Some 8
     else if reserved h.name then Some 9 else None
@@ -158,10 +165,10 @@ abbrev pub checked : Place → Heading → List Piece → Option ℕ → Result 
 checked at h body None = Ok (record { at = at; name = h.name; params = h.params; variadic = h.variadic; body = body })
 checked at h body (Some rule) = Err rule
 
-abbrev pub defined : Place → Option Heading → Result Macro ℕ
-defined at None = Err 2
-defined at (Some h) = let body : List Piece = pieces (signature h) h.body in checked at h body (broken_rule h body)
+abbrev pub line_macro : Place → Option Line → Result Macro ℕ
+line_macro at None = Err 2
+line_macro at (Some l) = checked at l.heading (pieces (signature l.heading) l.body) (broken_rule l.heading l.body (pieces (signature l.heading) l.body))
 
 -- the macro that a line after `#define` defines, or the number of the P rule that it breaks
 abbrev pub definition : Place → List PpToken → Result Macro ℕ
-definition at line = defined at (heading line)
+definition at line = line_macro at (line_parts line)

@@ -1,0 +1,57 @@
+//! The names of parameters, with their ranks.
+ghost use Rattle.std.specs.Prelude.{◌≡◌, [], ◌∷◌, ◌++◌, length, not, is_some, if◌then◌else◌, IfOk};
+ghost use Rattle.c_model.specs.ReplacementLists as lists;
+
+use cake_base::NoMemory;
+use indexmap::IndexSet;
+use std::alloc::Global;
+use std::marker::Model;
+
+/// Names of which none stands twice. Contracts see their list.
+#[derive(Drop)]
+pub struct Names {
+    texts: IndexSet<Vec<u8>>,
+}
+
+impl Model for Names {
+    ghost use Rattle.std.specs.Prelude.{List, ℕ, map};
+
+    ghost Value = { List (List ℕ) };
+
+    ghost view = { λ n. map (λ text. text.items) n.texts.keys };
+}
+
+impl Names {
+    /// No names.
+    pub fn new(alloc: Global) -> Names
+        ensures { result ≡ [] }
+    {
+        Names {
+            texts: IndexSet::new(alloc),
+        }
+    }
+
+    /// The number of names.
+    pub fn len(&self) -> usize
+        ensures { result ≡ length self.now }
+    {
+        self.texts.len()
+    }
+
+    /// The rank of a name.
+    pub fn rank(&self, name: &[u8]) -> Option<usize>
+        ensures { result ≡ lists.rank name.now self.now }
+    {
+        self.texts.get_index_of(name)
+    }
+
+    /// Adds a name at the end, and tells whether it is new. A name that is there stays alone.
+    pub fn add(&mut self, alloc: Global, name: &[u8]) -> Result<bool, NoMemory>
+        ensures new { IfOk result (λ new. new ≡ not (is_some (lists.rank name.now self.old))) }
+        ensures names { IfOk result (λ new. self.new ≡ (if new then self.old ++ name.now ∷ [] else self.old)) }
+    {
+        let text = Vec::from_slice(alloc, name)?;
+        let new = self.texts.insert(text)?;
+        Ok(new)
+    }
+}
