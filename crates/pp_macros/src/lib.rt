@@ -3,6 +3,7 @@
 
 
 mod constraints;
+mod definition;
 mod errors;
 mod heading;
 
@@ -13,4 +14,5 @@ mod rows;
 mod spelling;
 
 
+pub use definition::{MacroDef, read_macro};
 pub use errors::MacroError;
