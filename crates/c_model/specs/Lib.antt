@@ -1,4 +1,6 @@
 pub mod Operations
+pub mod JoinedLines
+pub mod PpSteps
 pub mod PpTokens
 pub mod Vocabulary
 pub mod Macros

@@ -7,4 +7,5 @@
 pub mod macros;
 pub mod numbers;
 pub mod outcomes;
+pub mod steps;
 pub mod tokens;

@@ -1,0 +1,6 @@
+use Rattle.std.proofs.Common.{◌≡◌, [], ◌∷◌, drop, map}
+use Rattle.c_model.specs.Vocabulary.{stands_in}
+use Rattle.c_tokens.proofs.punctuators.is_among_ones.Given as goal
+
+abbrev pub invariant-loop-x : goal.invariant-loop-x
+invariant-loop-x l = stands_in (map (λ p. p ∷ []) (drop l.x-index l.table)) (l.a ∷ []) ≡ stands_in (map (λ p. p ∷ []) l.table) (l.a ∷ [])
