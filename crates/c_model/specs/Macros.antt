@@ -58,10 +58,9 @@ abbrev pub without : List ℕ → List (List ℕ × Macro) → List (List ℕ ×
 without name [] = []
 without name (e ∷ es) = if same_text name e.0 then es else e ∷ without name es
 
--- the table with one more macro: a name that is held keeps its place
+-- the macros with one more, which goes last; a name that is held keeps its macro
 abbrev pub with_macro : Macro → List (List ℕ × Macro) → List (List ℕ × Macro)
-with_macro m [] = (m.name, m) ∷ []
-with_macro m (e ∷ es) = if same_text m.name e.0 then (e.0, m) ∷ es else e ∷ with_macro m es
+with_macro m es = if defines m.name es then es else es ++ (m.name, m) ∷ []
 
 -- the name of a file; one that was not named has the empty name
 abbrev pub file_name : ℕ → List (ℕ × List ℕ) → List ℕ
@@ -80,10 +79,10 @@ abbrev pub outset : Place
 outset = record { file = 0; line = 1; column = 1; order = 0 }
 
 -- a macro without parameters, of one token
-abbrev pub predefined : List ℕ → PpKind → List ℕ → Role → List ℕ × Macro
-predefined name kind spelling role = (name, record {
+abbrev pub predefined : List ℕ → PpKind → List ℕ → Role → Macro
+predefined name kind spelling role = record {
   at = outset; name = name; params = None; variadic = false;
-  body = (record { tok = record { kind = kind; place = outset; first = false; space = false; spelling = spelling }; role = role }) ∷ [] })
+  body = (record { tok = record { kind = kind; place = outset; first = false; space = false; spelling = spelling }; role = role }) ∷ [] }
 
 abbrev pub FILE : List ℕ
 FILE = codes "__FILE__"
@@ -106,12 +105,12 @@ CAKE = codes "__CAKE__"
 -- the table before any directive
 unfoldable pub first_table : Macros
 first_table = record {
-  entries = predefined FILE Name FILE File
-    ∷ predefined LINE Name LINE Line
-    ∷ predefined STDC Number (codes "1") Plain
-    ∷ predefined STDC_VERSION Number (codes "202311L") Plain
-    ∷ predefined STDC_HOSTED Number (codes "1") Plain
-    ∷ predefined CAKE Number (codes "1") Plain ∷ [];
+  entries = (FILE, predefined FILE Name FILE File)
+    ∷ (LINE, predefined LINE Name LINE Line)
+    ∷ (STDC, predefined STDC Number (codes "1") Plain)
+    ∷ (STDC_VERSION, predefined STDC_VERSION Number (codes "202311L") Plain)
+    ∷ (STDC_HOSTED, predefined STDC_HOSTED Number (codes "1") Plain)
+    ∷ (CAKE, predefined CAKE Number (codes "1") Plain) ∷ [];
   files = [] }
 
 -- ---- redefinition (6.10.5, constraints 1 and 2)
@@ -133,13 +132,24 @@ same_flag false b = not b
 abbrev pub same_piece : Piece → Piece → Bool
 same_piece p q = same_text p.tok.spelling q.tok.spelling && same_flag p.tok.space q.tok.space
 
+abbrev pub same_pieces : List Piece → List Piece → Bool
+same_pieces [] [] = true
+same_pieces [] (q ∷ qs) = false
+same_pieces (p ∷ ps) [] = false
+same_pieces (p ∷ ps) (q ∷ qs) = same_piece p q && same_pieces ps qs
+
 -- the same tokens; white space before the first doesn't count
 abbrev pub same_body : List Piece → List Piece → Bool
 same_body [] [] = true
 same_body [] (q ∷ qs) = false
 same_body (p ∷ ps) [] = false
-same_body (p ∷ ps) (q ∷ qs) = same_text p.tok.spelling q.tok.spelling && pointwise same_piece ps qs
+same_body (p ∷ ps) (q ∷ qs) = same_text p.tok.spelling q.tok.spelling && same_pieces ps qs
 
 -- whether one definition may stand where the other already stands
 abbrev pub same_definition : Macro → Macro → Bool
 same_definition m n = same_params m.params n.params && same_flag m.variadic n.variadic && same_body m.body n.body
+
+-- whether another definition of the name stands already
+abbrev pub clashes : Macro → Option Macro → Bool
+clashes m None = false
+clashes m (Some old) = not (same_definition old m)

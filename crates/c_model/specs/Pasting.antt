@@ -1,16 +1,25 @@
 -- Tokens that `#`, `##`, `__FILE__` and `__LINE__` make (ISO/IEC 9899:2024, 6.10.5.3, 6.10.5.4, 6.10.10.2).
-use Rattle.std.specs.Prelude.{ℕ, ◌+◌, ◌/◌, ◌%◌, Bool, true, false, ◌&&◌, ◌||◌, not, ◌==◌, nat_lt, if◌then◌else◌, List, [], ◌∷◌, ◌++◌, map, filter, Option, Some, None, codes, decimal}
+use Rattle.std.specs.Prelude.{ℕ, ◌+◌, ◌/◌, ◌%◌, Bool, true, false, ◌&&◌, ◌||◌, not, ◌==◌, nat_lt, if◌then◌else◌, List, [], ◌∷◌, ◌++◌, map, filter, Option, Some, None, Result, Ok, Err, codes, decimal}
 use Rattle.std.specs.List.{flat_map}
 use Rattle.cake_base.specs.declared.places.Place.{Place}
 use Rattle.c_model.specs.declared.tokens.PpKind.{PpKind}
 use Rattle.c_model.specs.declared.tokens.PpKind.TheVariants.{Header, Name, Number, Character, Text, Punct, Other}
-use Rattle.c_model.specs.PpTokens.{PpToken}
+use Rattle.cake_base.specs.declared.rules.Fault.{Fault}
+use Rattle.c_model.specs.PpTokens.{PpToken, tokens_of}
+use Rattle.c_model.specs.Macros.{same_text}
 use Rattle.c_model.specs.HideSets.{common}
 use Rattle.c_model.specs.MacroArguments.{Painted, Run, is_nil}
 
--- the kind of the one token that a text spells, if it is one token
+-- the kind of the only token of a text, if the text spells it
+abbrev pub alone : List ℕ → Result (List PpToken) Fault → Option PpKind
+alone text (Err fault) = None
+alone text (Ok []) = None
+alone text (Ok (t ∷ [])) = if same_text t.spelling text then Some t.kind else None
+alone text (Ok (t ∷ (u ∷ ts))) = None
+
+-- the kind of the one token that a text is
 unfoldable pub single : List ℕ → Option PpKind
-single text = None
+single text = alone text (tokens_of 0 text)
 
 abbrev pub fresh : PpToken → Painted
 fresh t = record { tok = t; hides = [] }

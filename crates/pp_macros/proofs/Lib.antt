@@ -1,3 +1,4 @@
 pub mod NamesLaws
 pub mod HeadingLaws
 pub mod PieceLaws
+pub mod TableLaws

@@ -1,16 +1,20 @@
 //! Definitions of macros.
 ghost use Rattle.std.specs.Prelude.{◌≡◌, ◌∷◌, drop, slice_get, IfOk, MatchOption, Some, None};
 ghost use Rattle.c_model.specs.MacroDefinitions as definitions;
+ghost use Rattle.c_model.specs.Macros as macros;
 ghost use Rattle.pp_macros.specs.Answers.{Reads, rule_at};
 ghost use Rattle.pp_macros.specs.declared.errors.MacroError.TheVariants as macro_error;
 
 use crate::constraints::{are_misnamed, has_misplaced, has_paste_at_edge, is_reserved};
 use crate::errors::MacroError;
-use crate::heading::{Heading, read_heading};
+use crate::heading::{Heading, object, read_heading};
+use crate::names::Names;
 use crate::pieces::{Piece, read_pieces};
 use crate::rows::Row;
-use c_tokens::PpList;
-use cake_base::{Family, Fault, Place, Rule};
+use crate::spelling::copied;
+use c_model::macros::Role;
+use c_tokens::{PpKind, PpList, PpTok};
+use cake_base::{Family, Fault, NoMemory, Place, Rule};
 use std::alloc::Global;
 use std::marker::Model;
 
@@ -30,6 +34,111 @@ impl Model for MacroDef {
     ghost Value = { macros.Macro };
 
     ghost view = { λ d. record { at = d.at; name = d.heading.name; params = d.heading.params; variadic = d.heading.variadic; body = d.body } };
+}
+
+impl MacroDef {
+    /// The place of the `#` of its directive.
+    pub fn at(&self) -> Place
+        ensures { result ≡ self.now.at }
+    {
+        self.at
+    }
+
+    /// The name of the macro.
+    pub fn name(&self) -> &[u8]
+        ensures { result.now ≡ self.now.name }
+    {
+        self.heading.name.as_slice()
+    }
+
+    /// The names of its parameters, where it is like a function.
+    pub fn params(&self) -> &Option<Names>
+        ensures { result.now ≡ self.now.params }
+    {
+        &self.heading.params
+    }
+
+    /// Whether it takes variable arguments.
+    pub fn is_variadic(&self) -> bool
+        ensures { result ≡ self.now.variadic }
+    {
+        self.heading.variadic
+    }
+
+    /// Its replacement list.
+    pub fn body(&self) -> &[Piece]
+        ensures { result.now ≡ self.now.body }
+    {
+        self.body.as_slice()
+    }
+
+    /// Whether the definition may stand where the other one stands already.
+    pub fn same(&self, other: &MacroDef) -> bool
+        ensures { result ≡ macros.same_definition other.now self.now }
+    {
+        same_params(other.params(), self.params())
+            && other.is_variadic() == self.is_variadic()
+            && same_body(other.body(), self.body())
+    }
+}
+
+/// Whether both are parameters, and the same ones, or neither is.
+fn same_params(ours: &Option<Names>, theirs: &Option<Names>) -> bool
+    ensures { result ≡ macros.same_params ours.now theirs.now }
+{
+    match ours {
+        Some(names) => match theirs {
+            Some(others) => names.same(others),
+            None => false,
+        },
+        None => theirs.is_none(),
+    }
+}
+
+/// Whether both tokens are spelled alike.
+fn same_spelling(piece: &Piece, other: &Piece) -> bool
+    ensures { result ≡ macros.same_text piece.now.tok.spelling other.now.tok.spelling }
+{
+    piece.tok.spelling() == other.tok.spelling()
+}
+
+/// Whether both tokens are spelled alike, with white space before both or neither.
+fn same_piece(piece: &Piece, other: &Piece) -> bool
+    ensures { result ≡ macros.same_piece piece.now other.now }
+{
+    same_spelling(piece, other) && piece.tok.space == other.tok.space
+}
+
+/// Whether both lists have the same tokens, with white space before the same ones.
+fn same_pieces(pieces: &[Piece], others: &[Piece]) -> bool
+    ensures { result ≡ macros.same_pieces pieces.now others.now }
+{
+    let mut rest = pieces;
+    let mut left = others;
+    while let Some((piece, after)) = rest.split_first() {
+        let Some((other, behind)) = left.split_first() else {
+            return false;
+        };
+        if !same_piece(piece, other) {
+            return false;
+        }
+        rest = after;
+        left = behind;
+    }
+    left.is_empty()
+}
+
+/// Whether both lists have the same tokens; white space before the first doesn't count.
+fn same_body(pieces: &[Piece], others: &[Piece]) -> bool
+    ensures { result ≡ macros.same_body pieces.now others.now }
+{
+    let Some((piece, rest)) = pieces.split_first() else {
+        return others.is_empty();
+    };
+    let Some((other, left)) = others.split_first() else {
+        return false;
+    };
+    same_spelling(piece, other) && same_pieces(rest, left)
 }
 
 /// The rule of the family P with that number, broken at a place.
@@ -60,6 +169,32 @@ fn broken_rule(heading: &Heading, body: &[Piece], line: &PpList, from: usize) ->
     } else {
         None
     }
+}
+
+/// A predefined macro of one token (ISO/IEC 9899:2024, 6.10.10).
+pub fn predefined(
+    alloc: Global,
+    name: &[u8],
+    kind: PpKind,
+    spelling: &[u8],
+    role: Role,
+) -> Result<MacroDef, NoMemory>
+    ensures { IfOk result (λ m. m ≡ macros.predefined name.now kind spelling.now role) }
+{
+    let at = Place {
+        file: 0,
+        line: 1,
+        column: 1,
+        order: 0,
+    };
+    let tok = PpTok::new(kind, at, false, false, copied(alloc, spelling)?);
+    let mut body = Row::new(alloc);
+    body.push(Piece { tok, role })?;
+    Ok(MacroDef {
+        at,
+        heading: object(copied(alloc, name)?),
+        body,
+    })
 }
 
 /// Reads what follows `#define` on its line.

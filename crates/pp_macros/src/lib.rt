@@ -12,7 +12,9 @@ mod pieces;
 
 mod rows;
 mod spelling;
+mod table;
 
 
 pub use definition::{MacroDef, read_macro};
 pub use errors::MacroError;
+pub use table::MacroTable;

@@ -1,6 +1,8 @@
 //! The names of parameters, with their ranks.
-ghost use Rattle.std.specs.Prelude.{◌≡◌, [], ◌∷◌, ◌++◌, length, not, is_some, if◌then◌else◌, IfOk};
+ghost use Rattle.std.specs.Prelude.{◌≡◌, [], ◌∷◌, ◌++◌, length, not, is_some, if◌then◌else◌, slice_get, IfOk, MatchOption, Some, None};
+ghost use Rattle.c_model.specs.Macros as macros;
 ghost use Rattle.c_model.specs.ReplacementLists as lists;
+ghost use Rattle.pp_macros.specs.Names.{same_at};
 
 use cake_base::NoMemory;
 use indexmap::IndexSet;
@@ -53,5 +55,43 @@ impl Names {
         let text = Vec::from_slice(alloc, name)?;
         let new = self.texts.insert(text)?;
         Ok(new)
+    }
+
+    /// The name of that rank, counted from 0; none where the rank isn't below the number of names.
+    fn get(&self, rank: usize) -> Option<&[u8]>
+        ensures { MatchOption result (slice_get self.now rank ≡ None) (λ name. slice_get self.now rank ≡ Some name.now) }
+    {
+        match self.texts.get_index(rank) {
+            Some(text) => Some(text.as_slice()),
+            None => None,
+        }
+    }
+
+    /// Whether both lists have the same name at that rank.
+    fn same_at(&self, other: &Names, rank: usize) -> bool
+        ensures { result ≡ same_at (slice_get self.now rank) (slice_get other.now rank) }
+    {
+        match self.get(rank) {
+            Some(name) => match other.get(rank) {
+                Some(text) => name == text,
+                None => false,
+            },
+            None => false,
+        }
+    }
+
+    /// Whether the names are the same, in the same order.
+    pub fn same(&self, other: &Names) -> bool
+        ensures { result ≡ macros.same_names self.now other.now }
+    {
+        if self.len() != other.len() {
+            return false;
+        }
+        for rank in 0..self.len() {
+            if !self.same_at(other, rank) {
+                return false;
+            }
+        }
+        true
     }
 }
