@@ -7,7 +7,7 @@ use Rattle.cake_base.specs.declared.rules.Family.TheVariants.{P}
 use Rattle.c_model.specs.PpTokens.{PpToken}
 use Rattle.c_model.specs.HideSets.{holds, with_rank, common}
 use Rattle.c_model.specs.Macros.{Macro, Macros, ranked}
-use Rattle.c_model.specs.MacroArguments.{Painted, Run, Inside, inside, opens, arguments}
+use Rattle.c_model.specs.MacroArguments.{Painted, Run, Inside, inside, placed, opens, arguments}
 use Rattle.c_model.specs.Substitution.{Argument, Use, unreplaced, written, with_replaced, variable_rank, uses, wanted, substituted}
 
 -- why replacement ends without a list
@@ -72,10 +72,6 @@ fill table rec c (u ∷ us) args made =
       after (rec (written args u.rank) made) (λ v m. fill table rec c us (with_replaced args u.rank v) m)
     else fill table rec c us args made
 
--- a token of an argument stands at the outermost name of a macro
-abbrev pub at_place : Place → Painted → Painted
-at_place place p = record p { tok = record p.tok { place = place } }
-
 abbrev pub call_with : Macros → Rest → Call → Option (List Run) → ℕ → Option Answer
 call_with table rec c None made = faulty c.name.place 6 made
 call_with table rec c (Some runs) made = fill table rec c (uses c.def) (map unreplaced runs) made
@@ -84,13 +80,13 @@ abbrev pub call : Macros → Rest → Painted → ℕ → Macro → Option Insid
 call table rec p n m None made = faulty p.tok.place 7 made
 call table rec p n m (Some i) made =
     call_with table rec (record { name = p.tok; hides = with_rank (common p.hides i.close.hides) n; def = m; rest = i.rest })
-      (arguments m (map (at_place p.tok.place) i.tokens)) made
+      (arguments m i.tokens) made
 
 abbrev pub at_kind : Macros → Rest → Painted → ℕ → Macro → Option (List (List ℕ)) → Run → ℕ → Option Answer
 at_kind table rec p n m None ps made =
     fill table rec (record { name = p.tok; hides = with_rank p.hides n; def = m; rest = ps }) [] [] made
 at_kind table rec p n m (Some names) ps made =
-    if opens ps then call table rec p n m (inside 0 (drop 1 ps)) made else keep rec p ps made
+    if opens ps then call table rec p n m (placed p.tok.place (inside 0 (drop 1 ps))) made else keep rec p ps made
 
 abbrev pub at_macro : Macros → Rest → Painted → Option (ℕ × Macro) → Run → ℕ → Option Answer
 at_macro table rec p None ps made = keep rec p ps made

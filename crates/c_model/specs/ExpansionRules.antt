@@ -6,9 +6,9 @@ use Rattle.cake_base.specs.declared.rules.Family.TheVariants.{P}
 use Rattle.c_model.specs.PpTokens.{PpToken}
 use Rattle.c_model.specs.HideSets.{holds, with_rank, common}
 use Rattle.c_model.specs.Macros.{Macro, Macros, ranked}
-use Rattle.c_model.specs.MacroArguments.{Painted, Run, Inside, inside, opens, arguments}
+use Rattle.c_model.specs.MacroArguments.{Painted, Run, Inside, inside, placed, opens, arguments}
 use Rattle.c_model.specs.Substitution.{Argument, Use, unreplaced, written, with_replaced, variable_rank, uses, wanted, substituted}
-use Rattle.c_model.specs.Expansion.{Answer, Stop, broken, passed, Rest, MADE, faulty, too_many, after, keep, cost, Call, replace, finish, fill, at_place, call_with, call, at_kind, at_macro, step, within, Expands, Fills}
+use Rattle.c_model.specs.Expansion.{Answer, Stop, broken, passed, Rest, MADE, faulty, too_many, after, keep, cost, Call, replace, finish, fill, call_with, call, at_kind, at_macro, step, within, Expands, Fills}
 use Rattle.c_model.specs.ExpansionSteps.{Below, within-more, fill-up}
 
 -- a rule that is broken, and a limit that is passed, as answers
@@ -107,7 +107,7 @@ pub Stays-alone : (table : Macros) (p : Painted) (ps : Run) (n : ℕ) (m : Macro
     opens ps ≡ false → Stays table p ps
 Stays-alone table p ps n m names known shown kind alone = record { stays = λ made a x.
     by_kind table p ps made n m (Some names) x.steps _ known shown kind
-      (ap (λ t. cond t (call table (within table x.steps) p n m (inside 0 (drop 1 ps)) made) (keep (within table x.steps) p ps made)) alone ∙ keeps table p ps made a x) }
+      (ap (λ t. cond t (call table (within table x.steps) p n m (placed p.tok.place (inside 0 (drop 1 ps))) made) (keep (within table x.steps) p ps made)) alone ∙ keeps table p ps made a x) }
 
 -- the call that a macro without parameters is
 abbrev pub object_call : Painted → ℕ → Macro → Run → Call
@@ -118,13 +118,13 @@ pub Expands-object : (table : Macros) (p : Painted) (ps : Run) (made n : ℕ) (m
 Expands-object table p ps made n m a known shown kind x = by_kind table p ps made n m None x.steps a known shown kind x.gives
 
 by_call : (table : Macros) (p : Painted) (ps : Run) (made n : ℕ) (m : Macro) (names : List (List ℕ)) (k : ℕ) (a : Answer) → ranked p.tok.spelling table.entries ≡ Some (n, m) → holds n p.hides ≡ false → m.params ≡ Some names → opens ps ≡ true →
-    call table (within table k) p n m (inside 0 (drop 1 ps)) made ≡ Some a → Expands table (p ∷ ps) made a
+    call table (within table k) p n m (placed p.tok.place (inside 0 (drop 1 ps))) made ≡ Some a → Expands table (p ∷ ps) made a
 by_call table p ps made n m names k a known shown kind opened h =
     by_kind table p ps made n m (Some names) k a known shown kind
-      (ap (λ t. cond t (call table (within table k) p n m (inside 0 (drop 1 ps)) made) (keep (within table k) p ps made)) opened ∙ h)
+      (ap (λ t. cond t (call table (within table k) p n m (placed p.tok.place (inside 0 (drop 1 ps))) made) (keep (within table k) p ps made)) opened ∙ h)
 
 pub Expands-open : (table : Macros) (p : Painted) (ps : Run) (made n : ℕ) (m : Macro) (names : List (List ℕ)) → ranked p.tok.spelling table.entries ≡ Some (n, m) → holds n p.hides ≡ false → m.params ≡ Some names → opens ps ≡ true →
-    inside 0 (drop 1 ps) ≡ None → Expands table (p ∷ ps) made (breaks p.tok.place 7 made)
+    placed p.tok.place (inside 0 (drop 1 ps)) ≡ None → Expands table (p ∷ ps) made (breaks p.tok.place 7 made)
 Expands-open table p ps made n m names known shown kind opened h =
     by_call table p ps made n m names 0 _ known shown kind opened (ap (λ o. call table (within table 0) p n m o made) h)
 
@@ -132,17 +132,14 @@ Expands-open table p ps made n m names known shown kind opened h =
 abbrev pub function_call : Painted → ℕ → Macro → Inside → Call
 function_call p n m i = record { name = p.tok; hides = with_rank (common p.hides i.close.hides) n; def = m; rest = i.rest }
 
-abbrev pub call_arguments : Painted → Macro → Inside → Option (List Run)
-call_arguments p m i = arguments m (map (at_place p.tok.place) i.tokens)
-
 pub Expands-count : (table : Macros) (p : Painted) (ps : Run) (made n : ℕ) (m : Macro) (names : List (List ℕ)) (i : Inside) → ranked p.tok.spelling table.entries ≡ Some (n, m) → holds n p.hides ≡ false → m.params ≡ Some names → opens ps ≡ true →
-    inside 0 (drop 1 ps) ≡ Some i → call_arguments p m i ≡ None → Expands table (p ∷ ps) made (breaks p.tok.place 6 made)
+    placed p.tok.place (inside 0 (drop 1 ps)) ≡ Some i → arguments m i.tokens ≡ None → Expands table (p ∷ ps) made (breaks p.tok.place 6 made)
 Expands-count table p ps made n m names i known shown kind opened h bad =
     by_call table p ps made n m names 0 _ known shown kind opened (ap (λ o. call table (within table 0) p n m o made) h
       ∙ ap (λ o. call_with table (within table 0) (function_call p n m i) o made) bad)
 
 pub Expands-call : (table : Macros) (p : Painted) (ps : Run) (made n : ℕ) (m : Macro) (names : List (List ℕ)) (i : Inside) (runs : List Run) (a : Answer) → ranked p.tok.spelling table.entries ≡ Some (n, m) → holds n p.hides ≡ false → m.params ≡ Some names → opens ps ≡ true →
-    inside 0 (drop 1 ps) ≡ Some i → call_arguments p m i ≡ Some runs → Fills table (function_call p n m i) (uses m) (map unreplaced runs) made a → Expands table (p ∷ ps) made a
+    placed p.tok.place (inside 0 (drop 1 ps)) ≡ Some i → arguments m i.tokens ≡ Some runs → Fills table (function_call p n m i) (uses m) (map unreplaced runs) made a → Expands table (p ∷ ps) made a
 Expands-call table p ps made n m names i runs a known shown kind opened h good x =
     by_call table p ps made n m names x.steps a known shown kind opened (ap (λ o. call table (within table x.steps) p n m o made) h
       ∙ ap (λ o. call_with table (within table x.steps) (function_call p n m i) o made) good ∙ x.gives)

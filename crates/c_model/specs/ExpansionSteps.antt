@@ -3,9 +3,9 @@ use Rattle.std.proofs.Common.{◌≡◌, ℕ, zero, suc, ◌+◌, ◌-◌, ◌<�
 use Rattle.c_model.specs.PpTokens.{PpToken}
 use Rattle.c_model.specs.HideSets.{holds, with_rank, common}
 use Rattle.c_model.specs.Macros.{Macro, Macros, ranked}
-use Rattle.c_model.specs.MacroArguments.{Painted, Run, Inside, inside, opens, arguments}
+use Rattle.c_model.specs.MacroArguments.{Painted, Run, Inside, inside, placed, opens, arguments}
 use Rattle.c_model.specs.Substitution.{Argument, Use, unreplaced, written, with_replaced, variable_rank, uses, wanted, substituted}
-use Rattle.c_model.specs.Expansion.{Answer, Stop, Rest, MADE, faulty, too_many, after, keep, cost, Call, replace, finish, fill, at_place, call_with, call, at_kind, at_macro, step, within, Expands, Fills}
+use Rattle.c_model.specs.Expansion.{Answer, Stop, Rest, MADE, faulty, too_many, after, keep, cost, Call, replace, finish, fill, call_with, call, at_kind, at_macro, step, within, Expands, Fills}
 
 -- g answers at least what f answers
 pub record Below (f g : Rest) : Type 0 where
@@ -52,15 +52,15 @@ call_with-up table f g up c (Some runs) made a h = fill-up table f g up c (uses 
 call-up : (table : Macros) (f g : Rest) → Below f g → (p : Painted) (n : ℕ) (m : Macro) (o : Option Inside) (made : ℕ) (a : Answer) →
     call table f p n m o made ≡ Some a → call table g p n m o made ≡ Some a
 call-up table f g up p n m None made a h = h
-call-up table f g up p n m (Some i) made a h = call_with-up table f g up (record { name = p.tok; hides = with_rank (common p.hides i.close.hides) n; def = m; rest = i.rest }) (arguments m (map (at_place p.tok.place) i.tokens)) made a h
+call-up table f g up p n m (Some i) made a h = call_with-up table f g up (record { name = p.tok; hides = with_rank (common p.hides i.close.hides) n; def = m; rest = i.rest }) (arguments m i.tokens) made a h
 
 at_kind-up : (table : Macros) (f g : Rest) → Below f g → (p : Painted) (n : ℕ) (m : Macro) (o : Option (List (List ℕ))) (ps : Run) (made : ℕ) (a : Answer) →
     at_kind table f p n m o ps made ≡ Some a → at_kind table g p n m o ps made ≡ Some a
 at_kind-up table f g up p n m None ps made a = fill-up table f g up (record { name = p.tok; hides = with_rank p.hides n; def = m; rest = ps }) [] [] made a
 at_kind-up table f g up p n m (Some names) ps made a =
-    elim (opens ps) as (λ t. cond t (call table f p n m (inside 0 (drop 1 ps)) made) (keep f p ps made) ≡ Some a
-      → cond t (call table g p n m (inside 0 (drop 1 ps)) made) (keep g p ps made) ≡ Some a) [
-      true ↦ call-up table f g up p n m (inside 0 (drop 1 ps)) made a
+    elim (opens ps) as (λ t. cond t (call table f p n m (placed p.tok.place (inside 0 (drop 1 ps))) made) (keep f p ps made) ≡ Some a
+      → cond t (call table g p n m (placed p.tok.place (inside 0 (drop 1 ps))) made) (keep g p ps made) ≡ Some a) [
+      true ↦ call-up table f g up p n m (placed p.tok.place (inside 0 (drop 1 ps))) made a
     | false ↦ keep-up f g up p ps made a ]
 
 at_macro-up : (table : Macros) (f g : Rest) → Below f g → (p : Painted) (o : Option (ℕ × Macro)) (ps : Run) (made : ℕ) (a : Answer) →

@@ -1,15 +1,16 @@
 -- Replacement always gives an answer: each step takes a token from the list or from what may still be made.
 use Rattle.std.proofs.Common.{◌≡◌, ℕ, zero, suc, ◌+◌, ◌-◌, ◌*◌, ◌<◌, ◌≤◌, ◌⊎◌, inl, inr, Bool, true, false, ◌&&◌, ◌==◌, nat_lt, max, List, [], ◌∷◌, ◌++◌, length, map, drop, length-drop, length-append, Option, Some, None, Result, Ok, Err, refl, ap, subst, sym, ◌∙◌, arith, cond, slice_get, slice_set}
 use Rattle.std.proofs.lemmas.List.{length-map}
+use Rattle.cake_base.specs.declared.places.Place.{Place}
 use Rattle.c_model.specs.PpTokens.{PpToken}
 use Rattle.c_model.specs.HideSets.{holds}
 use Rattle.c_model.specs.Macros.{Macro, Macros, ranked, spells}
 use Rattle.c_model.specs.ReplacementLists.{RIGHT, deeper}
 use Rattle.c_model.specs.MacroDefinitions.{COMMA, names_of}
-use Rattle.c_model.specs.MacroArguments.{Painted, Run, Inside, in_front, inside, onto, parts, is_nil, exact_arguments, variable_arguments, arguments, opens}
+use Rattle.c_model.specs.MacroArguments.{Painted, Run, Inside, in_front, inside, at_place, placed, onto, parts, is_nil, exact_arguments, variable_arguments, arguments, opens}
 use Rattle.c_model.specs.Substitution.{Argument, Use, unreplaced, written, written_of, with_run, with_replaced, variable_rank, uses, wanted, substituted}
-use Rattle.c_model.specs.Expansion.{Answer, Stop, MADE, cost, Call, at_place, Expands, Fills}
-use Rattle.c_model.specs.ExpansionRules.{breaks, passes, with_front, Fills-unpasted, Fills-past, Fills-body, Fills-other, Fills-stopped, Fills-next, Expands-nil, Stays, Stays-unknown, Stays-hidden, Stays-alone, object_call, Expands-object, Expands-open, function_call, call_arguments, Expands-count, Expands-call}
+use Rattle.c_model.specs.Expansion.{Answer, Stop, MADE, cost, Call, Expands, Fills}
+use Rattle.c_model.specs.ExpansionRules.{breaks, passes, with_front, Fills-unpasted, Fills-past, Fills-body, Fills-other, Fills-stopped, Fills-next, Expands-nil, Stays, Stays-unknown, Stays-hidden, Stays-alone, object_call, Expands-object, Expands-open, function_call, Expands-count, Expands-call}
 
 -- the tokens made, in either case
 pub count : Answer → ℕ
@@ -101,8 +102,23 @@ arguments-weight m run rs =
       true ↦ variable-weight (length (names_of m.params)) run rs
     | false ↦ λ h. let l = exact-weight (length (names_of m.params)) run rs h in omega (arith, l) ]
 
-pub length-at_place : (m : Macro) (p : Painted) (i : Inside) (rs : List Run) → call_arguments p m i ≡ Some rs → weight rs ≤ suc (suc (length i.tokens))
-length-at_place m p i rs h = let l = arguments-weight m (map (at_place p.tok.place) i.tokens) rs h in omega (arith, l, length-map i.tokens (at_place p.tok.place))
+opens-length : (ps : Run) → opens ps ≡ true → 0 < length ps
+opens-length [] h = cc
+opens-length (p ∷ ps) h = omega arith
+
+pub placed-length : (place : Place) (o : Option Inside) (i : Inside) → placed place o ≡ Some i → (j : Inside) × (o ≡ Some j) × (length i.tokens ≡ length j.tokens) × (i.rest ≡ j.rest)
+placed-length place None i h = cc
+placed-length place (Some j) i h =
+    let q : record j { tokens = map (at_place place) j.tokens } ≡ i = cc in
+    (j, refl, ap (λ (z : Inside). length z.tokens) (sym q) ∙ length-map j.tokens (at_place place), ap (λ (z : Inside). z.rest) (sym q))
+
+-- a call takes its name, two parentheses and what stands between them
+pub call-length : (place : Place) (ps : Run) (i : Inside) → opens ps ≡ true → placed place (inside 0 (drop 1 ps)) ≡ Some i → length i.tokens + length i.rest + 2 ≤ length ps
+call-length place ps i opened h =
+    let q = placed-length place (inside 0 (drop 1 ps)) i h in
+    let l = inside-length 0 (drop 1 ps) q.0 q.1 in
+    let e : length i.rest ≡ length q.0.rest = ap length q.3 in
+    omega (arith, l, q.2, e, length-drop 1 ps, opens-length ps opened)
 
 -- ---- arguments stay as written
 
@@ -175,25 +191,20 @@ count-front xs (Err e) = refl
 kept : (table : Macros) (p : Painted) (ps : Run) (made : ℕ) → Gives table ps made → Stays table p ps → Gives table (p ∷ ps) made
 kept table p ps made g f = record { answer = with_front (p ∷ []) g.answer; expands = f.stays made g.answer g.expands; grows = rw (count-front (p ∷ []) g.answer) g.grows }
 
-opens-length : (ps : Run) → opens ps ≡ true → 0 < length ps
-opens-length [] h = cc
-opens-length (p ∷ ps) h = omega arith
-
 call_total : (table : Macros) (n : ℕ) → Shorter table n → (p : Painted) (ps : Run) (made r : ℕ) (m : Macro) (names : List (List ℕ)) → left made (length (p ∷ ps)) < suc n →
     ranked p.tok.spelling table.entries ≡ Some (r, m) → holds r p.hides ≡ false → m.params ≡ Some names → opens ps ≡ true → Gives table (p ∷ ps) made
 unfolding count
 call_total table n ih p ps made r m names small known shown kind opened =
-    elim (inside 0 (drop 1 ps)) as (λ o. inside 0 (drop 1 ps) ≡ o → Gives table (p ∷ ps) made) [
+    elim (placed p.tok.place (inside 0 (drop 1 ps))) as (λ o. placed p.tok.place (inside 0 (drop 1 ps)) ≡ o → Gives table (p ∷ ps) made) [
       None ↦ λ h. record { answer = breaks p.tok.place 7 made; expands = Expands-open table p ps made r m names known shown kind opened h; grows = omega arith }
     | Some i ↦ λ h.
-      let l = inside-length 0 (drop 1 ps) i h in
-      let d = length-drop 1 ps in
-      elim (call_arguments p m i) as (λ o. call_arguments p m i ≡ o → Gives table (p ∷ ps) made) [
+      let l = call-length p.tok.place ps i opened h in
+      elim (arguments m i.tokens) as (λ o. arguments m i.tokens ≡ o → Gives table (p ∷ ps) made) [
         None ↦ λ bad. record { answer = breaks p.tok.place 6 made; expands = Expands-count table p ps made r m names i known shown kind opened h bad; grows = omega arith }
       | Some runs ↦ λ good.
-        let w = length-at_place m p i runs good in
-        let q = fill_total table n ih (function_call p r m i) (uses m) (map unreplaced runs) made (omega (arith, l, d, small, opens-length ps opened))
-          (λ k. let e = written-light runs k in omega (arith, e, w, l, d, small, opens-length ps opened)) in
+        let w = arguments-weight m i.tokens runs good in
+        let q = fill_total table n ih (function_call p r m i) (uses m) (map unreplaced runs) made (omega (arith, l, small))
+          (λ k. let e = written-light runs k in omega (arith, e, w, l, small)) in
         record { answer = q.answer; expands = Expands-call table p ps made r m names i runs q.answer known shown kind opened h good q.fills; grows = q.grows }
       ] refl
     ] refl

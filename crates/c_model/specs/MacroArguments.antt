@@ -1,5 +1,6 @@
 -- The arguments of a macro call (ISO/IEC 9899:2024, 6.10.5, 6.10.5.1).
 use Rattle.std.specs.Prelude.{ℕ, ◌+◌, ◌-◌, Bool, true, false, ◌&&◌, not, ◌==◌, nat_lt, nat_eq, if◌then◌else◌, List, [], ◌∷◌, ◌++◌, length, map, Option, Some, None, codes}
+use Rattle.cake_base.specs.declared.places.Place.{Place}
 use Rattle.c_model.specs.PpTokens.{PpToken}
 use Rattle.c_model.specs.Macros.{Macro, spells}
 use Rattle.c_model.specs.ReplacementLists.{LEFT, RIGHT, deeper}
@@ -29,6 +30,14 @@ inside depth [] = None
 inside depth (p ∷ ps) =
     if spells RIGHT p.tok && depth == 0 then Some (record { tokens = []; close = p; rest = ps })
     else in_front p (inside (deeper depth p.tok) ps)
+
+-- a token of an argument stands at the outermost name of a macro
+abbrev pub at_place : Place → Painted → Painted
+at_place place p = record p { tok = record p.tok { place = place } }
+
+abbrev pub placed : Place → Option Inside → Option Inside
+placed place None = None
+placed place (Some i) = Some (record i { tokens = map (at_place place) i.tokens })
 
 abbrev pub onto : Painted → List Run → List Run
 onto p [] = (p ∷ []) ∷ []
