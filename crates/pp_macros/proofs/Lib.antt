@@ -2,3 +2,5 @@ pub mod NamesLaws
 pub mod HeadingLaws
 pub mod PieceLaws
 pub mod TableLaws
+pub mod ArgumentLaws
+pub mod PastingLaws

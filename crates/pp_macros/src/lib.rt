@@ -2,12 +2,15 @@
 #![tactic(auto)]
 
 
+mod arguments;
 mod constraints;
 mod definition;
 mod errors;
 mod heading;
+mod hides;
 
 mod names;
+mod pasting;
 mod pieces;
 
 mod rows;

@@ -1,5 +1,6 @@
 //! Lists that grow at their end, and lists that are taken from the front.
 ghost use Rattle.std.specs.Prelude.{◌≡◌, ◌++◌, ◌<◌, ◌^◌, [], ◌∷◌, List, length, drop, OnOk, IfOk, MatchOption};
+ghost use Rattle.c_model.specs.MacroArguments.{is_nil};
 
 use cake_base::NoMemory;
 use std::alloc::Global;
@@ -52,6 +53,22 @@ impl<T: Drop> Row<T> {
         self.items.len()
     }
 
+    /// Whether there are none.
+    pub fn is_empty(&self) -> bool
+        ensures { result ≡ is_nil self.now }
+    {
+        self.items.is_empty()
+    }
+
+    /// Adds the items of another row at the end.
+    pub fn append(&mut self, other: Row<T>) -> Result<(), NoMemory>
+        ensures { OnOk result (self.new ≡ self.old ++ other) }
+    {
+        let Row { mut items } = other;
+        self.items.append(&mut items)?;
+        Ok(())
+    }
+
     /// The items.
     pub fn as_slice(&self) -> &[T]
         ensures { result.now ≡ self.now }
@@ -83,6 +100,15 @@ impl<T: Drop> Stack<T> {
         let Row { mut items } = row;
         items.reverse();
         Stack { items }
+    }
+
+    /// The items as a row.
+    pub fn into_row(self) -> Row<T>
+        ensures { result ≡ self }
+    {
+        let Stack { mut items } = self;
+        items.reverse();
+        Row { items }
     }
 
     /// Takes the first item.
