@@ -1,7 +1,9 @@
 -- Pasting at the end of a list.
-use Rattle.std.proofs.Common.{◌≡◌, ℕ, suc, Bool, true, false, List, [], ◌∷◌, ◌++◌, Option, Some, None, refl, ap, sym, ◌∙◌, append_assoc, append-nil}
+use Rattle.std.proofs.Common.{◌≡◌, ℕ, suc, Bool, true, false, List, [], ◌∷◌, ◌++◌, Option, Some, None, refl, ap, sym, ◌∙◌, append_assoc, append-nil, length, slice_get, Ok, Err, cond, arith}
+use Rattle.c_model.specs.PpTokens.{PpToken}
+use Rattle.c_model.specs.Macros.{same_text}
 use Rattle.c_model.specs.MacroArguments.{Painted, Run}
-use Rattle.c_model.specs.Pasting.{pasted, pasted_runs, before, then_rest}
+use Rattle.c_model.specs.Pasting.{alone, pasted, pasted_runs, before, then_rest}
 
 abbrev pub all_before : Run → Option Run → Option Run
 all_before xs None = None
@@ -23,3 +25,27 @@ pub last_pasted : (xs : Run) (p : Painted) (qs : Run) → pasted_runs (xs ++ p �
 last_pasted [] p qs = one_last p qs
 last_pasted (x ∷ []) p qs = ap (before x) (one_last p qs) ∙ before-all x [] (pasted_runs (p ∷ []) qs)
 last_pasted (x ∷ (y ∷ xs)) p qs = ap (before x) (last_pasted (y ∷ xs) p qs) ∙ before-all x (y ∷ xs) (pasted_runs (p ∷ []) qs)
+
+-- ---- the only token of a list
+
+pub alone-other : (text : List ℕ) (list : List PpToken) → (length list ≡ 1 → ⊥) → None ≡ alone text (Ok list)
+alone-other text [] h = refl
+alone-other text (t ∷ []) h = absurd (h refl)
+alone-other text (t ∷ (u ∷ ts)) h = refl
+
+pub alone-one : (text : List ℕ) (list : List PpToken) (t : PpToken) → length list ≡ 1 → Some t ≡ slice_get list 0 → alone text (Ok list) ≡ cond (same_text t.spelling text) (Some t.kind) None
+alone-one text [] t h e = cc
+alone-one text (u ∷ []) t h e = let q : u ≡ t = cc in ap (λ (z : PpToken). cond (same_text z.spelling text) (Some z.kind) None) q
+alone-one text (u ∷ (v ∷ ts)) t h e = absurd (omega (arith, h))
+
+pub alone-no : (text : List ℕ) (list : List PpToken) → length list ≡ 1 → None ≡ slice_get list 0 → None ≡ alone text (Ok list)
+alone-no text [] h e = refl
+alone-no text (u ∷ us) h e = cc
+
+-- the lists of a paste, put together
+pub pasted_end : (left r right qs row row' : Run) (p q both : Painted) → left ≡ r ++ p ∷ [] → right ≡ q ∷ qs → Some both ≡ pasted p q → row ≡ r ++ both ∷ [] → row' ≡ row ++ qs → Some row' ≡ pasted_runs left right
+pasted_end left r right qs row row' p q both is_left is_right made pushed all =
+    ap (λ (z : Run). Some z) (all ∙ ap (λ (z : Run). z ++ qs) pushed ∙ append_assoc r (both ∷ []) qs)
+    ∙ ap (λ o. all_before r (then_rest qs o)) made
+    ∙ sym (last_pasted r p (q ∷ qs))
+    ∙ ap (λ (z : Run). pasted_runs z (q ∷ qs)) (sym is_left) ∙ ap (pasted_runs left) (sym is_right)

@@ -15,6 +15,7 @@ mod pieces;
 
 mod rows;
 mod spelling;
+mod substitution;
 mod table;
 
 

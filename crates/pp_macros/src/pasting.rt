@@ -1,12 +1,13 @@
 //! Tokens that `#`, `##`, `__FILE__` and `__LINE__` make.
-ghost use Rattle.std.specs.Prelude.{◌≡◌, ◌++◌, [], ◌∷◌, ◌<◌, length, decimal, IfOk, OnOk, Some, None};
+ghost use Rattle.std.specs.Prelude.{◌≡◌, ◌++◌, [], ◌∷◌, ◌<◌, length, decimal, if◌then◌else◌, IfOk, OnOk, Some, None};
 ghost use Rattle.std.specs.List.{flat_map};
 ghost use Rattle.c_model.specs.MacroArguments.{is_nil};
+ghost use Rattle.c_model.specs.Macros as macros;
 ghost use Rattle.c_model.specs.Pasting as spec;
 
 use crate::hides::Painted;
 use crate::rows::{Row, Stack};
-use c_tokens::{PpKind, PpTok, TokenError, pp_tokens};
+use c_tokens::{PpKind, PpList, PpTok, TokenError, pp_tokens};
 use cake_base::{Bytes, NoMemory};
 use itoa::Buffer;
 use std::alloc::Global;
@@ -21,15 +22,31 @@ fn single(alloc: Global, text: &[u8]) -> Result<Option<PpKind>, NoMemory>
     match pp_tokens(alloc, text, 0) {
         Err(TokenError::NoMemory) => Err(NoMemory),
         Err(TokenError::Fault(_)) => Ok(None),
-        Ok(list) => {
-            if list.count() != 1 {
-                return Ok(None);
-            }
-            match list.get(0) {
-                Some(tok) if tok.spelling() == text => Ok(Some(tok.kind)),
-                _ => Ok(None),
-            }
-        }
+        Ok(list) => Ok(alone(&list, text)),
+    }
+}
+
+/// The kind of the only token, if it is spelled like that.
+fn alone(list: &PpList, text: &[u8]) -> Option<PpKind>
+    ensures { result ≡ spec.alone text.now (Ok list.now) }
+{
+    if list.count() != 1 {
+        return None;
+    }
+    match list.get(0) {
+        Some(tok) => kind_of(tok, text),
+        None => None,
+    }
+}
+
+/// The kind of the token, if it is spelled like that.
+fn kind_of(tok: &PpTok, text: &[u8]) -> Option<PpKind>
+    ensures { result ≡ (if macros.same_text tok.now.spelling text.now then Some tok.now.kind else None) }
+{
+    if tok.spelling() == text {
+        Some(tok.kind)
+    } else {
+        None
     }
 }
 
