@@ -4,3 +4,4 @@ pub mod PieceLaws
 pub mod TableLaws
 pub mod ArgumentLaws
 pub mod PastingLaws
+pub mod MachineLaws

@@ -4,7 +4,7 @@ use Rattle.std.specs.List.{position, list_any}
 use Rattle.std.specs.Option.{option_map, is_some}
 use Rattle.std.specs.Map.{keys_of, lookup as lookup_by, remove_entry}
 use Rattle.std.proofs.lemmas.List.{map-append}
-use Rattle.c_model.specs.Macros.{Macro, Macros, same_text, found, ranked, one_later, defines, without, same_names, with_file, with_macro, same_definition, clashes}
+use Rattle.c_model.specs.Macros.{Macro, Macros, same_text, found, ranked, one_later, defines, without, same_names, with_file, with_macro, same_definition, clashes, file_name}
 use Rattle.indexmap.specs.IndexMap.{insert_entry}
 use Rattle.pp_macros.specs.Names.{same_at}
 use Rattle.pp_macros.specs.Answers.{Defines}
@@ -164,3 +164,16 @@ defines-clash old m b h other =
 pub one_more_macro : (es : List (List ℕ × Macro)) (e : List ℕ × Macro) (t u : Macros) → t ≡ record { entries = es; files = [] } → u ≡ record t { entries = t.entries ++ e ∷ [] } →
     u ≡ record { entries = es ++ e ∷ []; files = [] }
 one_more_macro es e t u h k = k ∙ ap (λ (z : Macros). let r : Macros = record z { entries = z.entries ++ e ∷ [] } in r) h
+
+-- ---- names of files
+
+abbrev pub or_empty : Option (List ℕ) → List ℕ
+or_empty None = []
+or_empty (Some name) = name
+
+pub file_name-lookup : (file : ℕ) (es : List (ℕ × List ℕ)) → or_empty (lookup_by (nat_eq file) es) ≡ file_name file es
+file_name-lookup file [] = refl
+file_name-lookup file (e ∷ es) =
+    elim (nat_eq file e.0) as (λ t. or_empty (cond t (Some e.1) (lookup_by (nat_eq file) es)) ≡ cond t e.1 (file_name file es)) [
+      true ↦ refl
+    | false ↦ file_name-lookup file es ]

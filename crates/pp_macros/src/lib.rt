@@ -6,6 +6,7 @@ mod arguments;
 mod constraints;
 mod definition;
 mod errors;
+mod expansion;
 mod heading;
 mod hides;
 

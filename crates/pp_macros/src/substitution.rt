@@ -2,7 +2,9 @@
 ghost use Rattle.std.specs.Prelude.{◌≡◌, ◌++◌, [], ◌∷◌, ◌&&◌, ◌||◌, not, length, map, slice_get, true, false, IfOk, MatchOption, Some, None};
 ghost use Rattle.std.specs.Option.{option_copied};
 ghost use Rattle.c_model.specs.MacroDefinitions as definitions;
+ghost use Rattle.c_model.specs.ReplacementLists as lists;
 ghost use Rattle.c_model.specs.Substitution as spec;
+ghost use Rattle.pp_macros.specs.Filling.{source_of, operand_of, operator_taken};
 
 use crate::arguments::count_of;
 use crate::constraints::is_close;
@@ -194,6 +196,7 @@ impl Model for Filling {
 }
 
 /// What a replacement list is filled from.
+#[derive(Drop)]
 struct Source<'a> {
     args: &'a [Argument],
     varies: bool,
@@ -341,5 +344,180 @@ impl Filling {
             glued: true,
             group,
         }
+    }
+}
+
+impl<'a> Source<'a> {
+    /// Whether the token is left out with the text of `__VA_OPT__`.
+    fn skips(&self, inside: bool, role: Role) -> bool
+        ensures { result ≡ (not self.now.varies && inside && not (lists.is_close role)) }
+    {
+        !self.varies && inside && !is_close(role)
+    }
+
+    /// What a token adds that stands for tokens; nothing for the others.
+    fn operand(&self, alloc: Global, tok: &PpTok, role: Role) -> Result<Option<Row<Painted>>, NoMemory>
+        ensures { IfOk result (λ o. o ≡ operand_of (source_of self.now) tok.now role) }
+    {
+        match role {
+            Role::Plain => Ok(Some(alone(alloc, Painted::fresh(alloc, tok.copy(alloc)?))?)),
+            Role::Replaced(rank) => Ok(Some(headed(alloc, tok, replaced(self.args, rank))?)),
+            Role::Written(rank) => {
+                let run = headed(alloc, tok, written(self.args, rank))?;
+                Ok(Some(or_placemarker(alloc, tok, run)?))
+            }
+            Role::Quoted(rank) => {
+                let run = copied(alloc, written(self.args, rank))?;
+                Ok(Some(alone(alloc, string_of(alloc, tok, run)?)?))
+            }
+            Role::File => Ok(Some(alone(alloc, file_token(alloc, tok, self.file)?)?)),
+            Role::Line => Ok(Some(alone(alloc, line_token(alloc, tok, self.line)?)?)),
+            Role::Paste
+            | Role::Operand
+            | Role::Optional
+            | Role::QuotedOptional
+            | Role::OptionalOperand
+            | Role::Open
+            | Role::Close => Ok(None),
+        }
+    }
+}
+
+impl Filling {
+    /// Whether the text of `__VA_OPT__` is read.
+    fn is_inside(&self) -> bool
+        ensures { result ≡ spec.in_group self.now.group }
+    {
+        self.group.is_some()
+    }
+
+    /// Ends the text of `__VA_OPT__`.
+    fn close(self, alloc: Global) -> Result<Option<Filling>, NoMemory>
+        ensures { IfOk result (λ o. o ≡ spec.end_group self.done self.group) }
+    {
+        let Filling {
+            done,
+            glued: _,
+            group,
+        } = self;
+        end_group(alloc, done, group)
+    }
+
+    /// Takes a token that stands for no tokens.
+    fn take_operator(self, alloc: Global, tok: &PpTok, role: Role) -> Result<Option<Filling>, NoMemory>
+        ensures { IfOk result (λ o. o ≡ operator_taken self tok.now role) }
+    {
+        match role {
+            Role::Paste => Ok(Some(self.glue())),
+            Role::Optional => Ok(Some(self.begin_group(alloc, tok, false)?)),
+            Role::QuotedOptional => Ok(Some(self.begin_group(alloc, tok, true)?)),
+            Role::Close => self.close(alloc),
+            Role::Plain
+            | Role::Replaced(_)
+            | Role::Written(_)
+            | Role::Quoted(_)
+            | Role::Operand
+            | Role::OptionalOperand
+            | Role::Open
+            | Role::File
+            | Role::Line => Ok(Some(self)),
+        }
+    }
+
+    /// Takes a token of the replacement list.
+    fn take(self, alloc: Global, source: &Source, piece: &Piece) -> Result<Option<Filling>, NoMemory>
+        ensures { IfOk result (λ o. o ≡ spec.filled_piece (source_of source.now) self piece.now) }
+    {
+        if source.skips(self.is_inside(), piece.role) {
+            return Ok(Some(self));
+        }
+        match source.operand(alloc, &piece.tok, piece.role)? {
+            Some(run) => self.add(alloc, run),
+            None => self.take_operator(alloc, &piece.tok, piece.role),
+        }
+    }
+}
+
+/// The replacement list put together, unless pasting makes no single token.
+fn filled(alloc: Global, source: &Source, body: &[Piece]) -> Result<Option<Row<Painted>>, NoMemory>
+    ensures { IfOk result (λ o. o ≡ spec.filled (source_of source.now) (Some spec.empty_filling) body.now) }
+{
+    let mut filling = Filling {
+        done: Row::new(alloc),
+        glued: false,
+        group: None,
+    };
+    for piece in body {
+        match filling.take(alloc, source, piece)? {
+            Some(next) => filling = next,
+            None => return Ok(None),
+        }
+    }
+    let Filling {
+        done,
+        glued: _,
+        group: _,
+    } = filling;
+    Ok(Some(done))
+}
+
+/// The token at another place, with more macros in its hide set.
+fn paint(alloc: Global, place: Place, hides: &Hides, p: Painted) -> Result<Painted, NoMemory>
+    ensures { IfOk result (λ q. q ≡ spec.paint place hides.now p) }
+{
+    let Painted {
+        mut tok,
+        hides: own,
+    } = p;
+    tok.place = place;
+    Ok(Painted {
+        tok,
+        hides: own.union(alloc, hides)?,
+    })
+}
+
+/// The text that comes in the place of a name.
+fn text_for(
+    alloc: Global,
+    name: &PpTok,
+    hides: &Hides,
+    run: Row<Painted>,
+) -> Result<Row<Painted>, NoMemory>
+    ensures { IfOk result (λ r. r ≡ spec.text_for name.now hides.now run) }
+{
+    let mut rest = Stack::new(without_placemarkers(alloc, run)?);
+    let mut row = Row::new(alloc);
+    let Some(first) = rest.pop() else {
+        return Ok(row);
+    };
+    row.push(paint(alloc, name.place, hides, begun(name, first))?)?;
+    while let Some(p) = rest.pop() {
+        row.push(paint(alloc, name.place, hides, p)?)?;
+    }
+    Ok(row)
+}
+
+/// The text that comes in the place of a call of the macro, unless pasting makes no single token
+/// (ISO/IEC 9899:2024, 6.10.5.2 to 6.10.5.4).
+pub fn substituted(
+    alloc: Global,
+    table: &MacroTable,
+    name: &PpTok,
+    hides: &Hides,
+    def: &MacroDef,
+    args: &[Argument],
+) -> Result<Option<Row<Painted>>, NoMemory>
+    ensures { IfOk result (λ o. o ≡ spec.substituted table.now.files name.now hides.now def.now args.now) }
+{
+    let last = count_of(def.params());
+    let source = Source {
+        args,
+        varies: varies(args, last),
+        file: table.file_name(name.place.file),
+        line: name.place.line,
+    };
+    match filled(alloc, &source, def.body())? {
+        Some(run) => Ok(Some(text_for(alloc, name, hides, run)?)),
+        None => Ok(None),
     }
 }

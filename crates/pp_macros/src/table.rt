@@ -148,4 +148,14 @@ impl MacroTable {
         self.files.insert(file, name)?;
         Ok(())
     }
+
+    /// The name of a file; one that was not named has the empty name.
+    pub fn file_name(&self, file: u32) -> &[u8]
+        ensures { result.now ≡ macros.file_name file self.now.files }
+    {
+        match self.files.get(&file) {
+            Some(name) => name.as_str().as_bytes(),
+            None => &[],
+        }
+    }
 }
