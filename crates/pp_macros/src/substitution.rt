@@ -521,3 +521,27 @@ pub fn substituted(
         None => Ok(None),
     }
 }
+
+/// Keeps an argument fully replaced.
+pub fn set_replaced(args: &mut Vec<Argument>, rank: usize, run: Row<Painted>)
+    ensures { args.new.items ≡ spec.with_replaced args.old.items rank run }
+{
+    if rank < args.len() {
+        args[rank].replaced = Some(run);
+    }
+}
+
+/// The arguments, of which none is replaced yet.
+pub fn unreplaced(alloc: Global, runs: Row<Row<Painted>>) -> Result<Vec<Argument>, NoMemory>
+    ensures { IfOk result (λ args. args.items ≡ map spec.unreplaced runs) }
+{
+    let mut rest = Stack::new(runs);
+    let mut args = Vec::new(alloc);
+    while let Some(run) = rest.pop() {
+        args.push(Argument {
+            written: run,
+            replaced: None,
+        })?;
+    }
+    Ok(args)
+}
