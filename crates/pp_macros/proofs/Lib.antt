@@ -5,3 +5,4 @@ pub mod TableLaws
 pub mod ArgumentLaws
 pub mod PastingLaws
 pub mod MachineLaws
+pub mod GoOnLaws
