@@ -103,3 +103,15 @@ pub mod Preferences
 pub mod DepthPlace
 pub mod OpenPrimary
 pub mod TerminalsOf
+pub mod Macros
+pub mod ReplacementLists
+pub mod MacroDefinitions
+pub mod HideSets
+pub mod MacroArguments
+pub mod Pasting
+pub mod Substitution
+pub mod Expansion
+pub mod ExpansionSteps
+pub mod ExpansionRules
+pub mod ExpansionTotal
+pub mod ExpansionFunction

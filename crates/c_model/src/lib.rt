@@ -11,6 +11,7 @@ pub mod flow;
 pub mod grammar;
 pub mod grammar_laws;
 pub mod laws;
+pub mod macros;
 pub mod marks;
 pub mod memory_examples;
 pub mod numbers;

@@ -1,0 +1,5 @@
+pub mod Names
+pub mod Definitions
+pub mod Answers
+pub mod Filling
+pub mod Machine
