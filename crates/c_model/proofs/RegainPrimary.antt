@@ -48,8 +48,8 @@ no_type : (s : Scopes) (t : Terminal) (us : List Terminal) → mem (ahead tables
 unfolding ahead
 no_type s t [] h = refl
 no_type s t (u ∷ vs) h =
-  let n = decide (begins_type s u) (λ e. apart_mem tables (kind (after act.Pass s t) u) (firsts r.Expr) (firsts r.Squals) expressions_are_no_types h e) in
-  ap not (and_false (t.kind == 66) (begins_type s u) n)
+    let n = decide (begins_type s u) (λ e. apart_mem tables (kind (after act.Pass s t) u) (firsts r.Expr) (firsts r.Squals) expressions_are_no_types h e) in
+    ap not (and_false (t.kind == 66) (begins_type s u) n)
 
 -- an opening parenthesis is of no other kind in any scopes
 pick : (c d : Bool) (k : ℕ) → mem (if c then (if d then 116 else 117) else k) (66 ∷ []) ≡ true → mem k (66 ∷ []) ≡ true
@@ -89,11 +89,11 @@ pub regain : {f : Form} {s new : Scopes} {ts rest : List Terminal} {xs : List Tr
 unfolding open_primary_table table hollow
 regain (Derives.a_word e) = Derives.a_word e
 regain {f = rule r.Primary} {s = s} (Derives.a_rule (Derives.right (Derives.right (Derives.right (Derives.right (Derives.left (Derives.both (Derives.a_word {t = t} {ts = us} e) (Derives.both d c q) p))))))) =
-  let d' = regain d in
-  Derives.a_rule (Derives.right (Derives.right (Derives.right (Derives.right (Derives.chosen (no_type s t us (begun refl d')) (Derives.both (Derives.a_word e) (Derives.both d' (regain c) q) p))))))
+    let d' = regain d in
+    Derives.a_rule (Derives.right (Derives.right (Derives.right (Derives.right (Derives.chosen (no_type s t us (begun refl d')) (Derives.both (Derives.a_word e) (Derives.both d' (regain c) q) p))))))
 regain {f = rule r.Primary} {s = s} (Derives.a_rule (Derives.right (Derives.right (Derives.right (Derives.right (Derives.right (Derives.a_rule (Derives.both (Derives.a_word {t = t} {ts = us} e) (Derives.both d c q) p)))))))) =
-  let d' = regain d in
-  Derives.a_rule (Derives.right (Derives.right (Derives.right (Derives.right (Derives.other (sees_type s t us e (begun refl d')) (Derives.a_rule (Derives.both (Derives.a_word e) (Derives.both d' (regain c) q) p)))))))
+    let d' = regain d in
+    Derives.a_rule (Derives.right (Derives.right (Derives.right (Derives.right (Derives.other (sees_type s t us e (begun refl d')) (Derives.a_rule (Derives.both (Derives.a_word e) (Derives.both d' (regain c) q) p)))))))
 regain {f = rule r.Primary} (Derives.a_rule (Derives.left d)) = Derives.a_rule (Derives.left (regain d))
 regain {f = rule r.Primary} (Derives.a_rule (Derives.right (Derives.left d))) = Derives.a_rule (Derives.right (Derives.left (regain d)))
 regain {f = rule r.Primary} (Derives.a_rule (Derives.right (Derives.right (Derives.left d)))) = Derives.a_rule (Derives.right (Derives.right (Derives.left (regain d))))

@@ -45,12 +45,10 @@ pub fn parsed_front_is_begun()
 #[tactic(auto, using(crate::proofs::Forget::same_table))]
 pub fn untested_table_is_grammar()
     ensures { (rule : Rule) → untested (table rule) ≡ grammar rule }
-{
-}
+{}
 
 /// The test at the parenthesis of a primary expression loses no derivation.
 #[tactic(auto, using(crate::proofs::RegainPrimary::regain_unit))]
 pub fn primary_test_loses_nothing()
     ensures { (ts : List Terminal) (xs : List Tree) (new : Scopes) (rest : List Terminal) → Derives open_primary (rule r.Unit) start ts xs new rest → Derives parsed (rule r.Unit) start ts xs new rest }
-{
-}
+{}
