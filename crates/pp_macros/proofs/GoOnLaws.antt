@@ -51,11 +51,16 @@ pub Asked-parts : (f : Waiting) (fs calls : List Waiting) (pending out : Run) (n
 Asked-parts f fs calls pending out name hides def after uses us args args' args'' seen rank before last u u' empty run view lasts same next is set none pushed put runs same' emptied =
     let g : Waiting = waiting name hides def after uses args rank before in
     let n : from_wanted args (variable_rank def) uses ≡ u ∷ us =
-        ap (λ (z : List Argument). from_wanted z (variable_rank def) uses) (sym same) ∙ ap (λ l. from_wanted args' l uses) (sym lasts) ∙ next ∙ ap (λ (z : Use). z ∷ us) (sym is) in
+    ap (λ (z : List Argument). from_wanted z (variable_rank def) uses) (sym same) ∙ ap (λ l. from_wanted args' l uses) (sym lasts) ∙ next ∙ ap (λ (z : Use). z ∷ us) (sym is) in
     let s : seen ≡ with_replaced args u.rank [] = set ∙ ap (with_replaced args u.rank) none in
-    let x : Asked g fs calls pending out = record { asked = u; rest = us; next = n;
+    let x : Asked g fs calls pending out = record {
+      asked = u;
+      rest = us;
+      next = n;
       waits = pushed ∙ ap (λ (z : List Argument). waiting name hides def after us z u.rank before ∷ fs) s;
-      argument = put ∙ runs ∙ ap (λ (z : List Argument). written z u.rank) same'; empty = emptied } in
+      argument = put ∙ runs ∙ ap (λ (z : List Argument). written z u.rank) same';
+      empty = emptied;
+    } in
     subst (λ (z : Waiting). Asked z fs calls pending out) view x
 
 -- the state in which the text of a call is there
@@ -86,9 +91,15 @@ pub Done-parts : (table : Macros) (f : Waiting) (made more : ℕ) (pending out :
     Finishes table (record { name = name; hides = hides; def = def; rest = after }) args'' made (Ok body) more → pending ≡ body ++ after → out ≡ before → Done table f made more pending out
 Done-parts table f made more pending out name hides def after uses args args' args'' rank before last body view lasts same next same' fin put emptied =
     let g : Waiting = waiting name hides def after uses args rank before in
-    let x : Done table g made more pending out = record { body = body;
+    let x : Done table g made more pending out = record {
+      body = body;
       none = ap (λ (z : List Argument). from_wanted z (variable_rank def) uses) (sym same) ∙ ap (λ l. from_wanted args' l uses) (sym lasts) ∙ next;
-      text = ap (λ (z : List Argument). substituted table.files name hides def z) (sym same') ∙ fin.0; count = fin.1; fits = fin.2; put = put; before = emptied } in
+      text = ap (λ (z : List Argument). substituted table.files name hides def z) (sym same') ∙ fin.0;
+      count = fin.1;
+      fits = fin.2;
+      put = put;
+      before = emptied;
+    } in
     subst (λ (z : Waiting). Done table z made more pending out) view x
 
 -- a call that ends all
@@ -105,4 +116,4 @@ Stopped-parts table f fs made more name hides def after uses args args' args'' r
     let n : from_wanted args (variable_rank def) uses ≡ [] = ap (λ (z : List Argument). from_wanted z (variable_rank def) uses) (sym same) ∙ ap (λ l. from_wanted args' l uses) (sym lasts) ∙ next in
     let s : Stops (Fills table g.call [] args made) e more = subst (λ (z : List Argument). Stops (Fills table g.call [] z made) e more) same' fin in
     subst (λ (z : Waiting). Stops (GoesOn table z fs made) e more) view
-      (Stops-map (Fills table g.call [] args made) (GoesOn table g fs made) e more (λ x h. goes_stopped table g fs made x n h) s)
+    (Stops-map (Fills table g.call [] args made) (GoesOn table g fs made) e more (λ x h. goes_stopped table g fs made x n h) s)
