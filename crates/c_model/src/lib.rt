@@ -8,4 +8,5 @@ pub mod constants;
 pub mod numbers;
 pub mod outcomes;
 pub mod steps;
+pub mod token_laws;
 pub mod tokens;
