@@ -1,6 +1,7 @@
 //! What outside vectors say of tokens; and each allocating call once with ample memory.
 use crate::{
-    CKind, CList, CTok, PpKind, PpList, PpTok, TokenError, c_token, join_strings, pp_tokens,
+    CKind, CList, CTok, PpKind, PpList, PpTok, TokenError, c_token, convert_tokens, join_strings,
+    pp_tokens,
 };
 use c_model::numbers::Basic;
 use cake_base::{Bytes, Place};
