@@ -1,6 +1,7 @@
 pub mod Operations
 pub mod JoinedLines
 pub mod PpSteps
+pub mod Literals
 pub mod PpNumbers
 pub mod PpTokens
 pub mod Vocabulary
