@@ -13,3 +13,5 @@ pub mod DecidedGrammar
 pub mod ParserDecided
 pub mod Forget
 pub mod RegainPrimary
+pub mod PpNumberLaws
+pub mod LiteralLaws

@@ -80,6 +80,8 @@ pub mod PossibleState
 pub mod Findings
 pub mod JoinedLines
 pub mod PpSteps
+pub mod Literals
+pub mod PpNumbers
 pub mod Vocabulary
 pub mod Digits
 pub mod IntegerConstants

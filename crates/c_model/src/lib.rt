@@ -20,5 +20,6 @@ pub mod outcomes;
 pub mod positions;
 pub mod runs;
 pub mod steps;
+pub mod token_laws;
 pub mod tokens;
 pub mod types;

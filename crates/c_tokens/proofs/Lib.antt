@@ -8,3 +8,4 @@ pub mod DigitLaws
 pub mod FittingLaws
 pub mod CharacterLaws
 pub mod StringLaws
+pub mod WholeLaws

@@ -18,6 +18,7 @@ mod steps;
 mod strings;
 mod text;
 mod unended;
+mod whole;
 mod words;
 
 pub use c_model::tokens::{CKind, CTok, PpKind};
@@ -27,6 +28,7 @@ pub use lists::{CList, PpList};
 pub use pp_token::PpTok;
 pub use strings::join_strings;
 pub use text::pp_tokens;
+pub use whole::convert_tokens;
 
 #[cfg(test)]
 mod tests;

@@ -49,6 +49,13 @@ impl PpList {
         self.items.len()
     }
 
+    /// The tokens.
+    pub(crate) fn as_slice(&self) -> &[PpTok]
+        ensures { result.now ≡ self.now }
+    {
+        self.items.as_slice()
+    }
+
     /// The token of this rank, counted from 0; none exactly where `at` isn't below the count.
     pub fn get(&self, at: usize) -> Option<&PpTok>
         ensures { option_copied result ≡ slice_get self.now at }

@@ -1,6 +1,7 @@
 //! What outside vectors say of tokens; and each allocating call once with ample memory.
 use crate::{
-    CKind, CList, CTok, PpKind, PpList, PpTok, TokenError, c_token, join_strings, pp_tokens,
+    CKind, CList, CTok, PpKind, PpList, PpTok, TokenError, c_token, convert_tokens, join_strings,
+    pp_tokens,
 };
 use c_model::numbers::Basic;
 use cake_base::{Bytes, Place};
@@ -261,6 +262,7 @@ fn joins_strings(rt: HostRuntime) -> Result<(), Fail> {
     let joined = join_strings(alloc, &tokens)?;
     let want: [(&[u8], u32, u32); 3] = [(b"aAB\n17", 1, 0), (b"x", 23, 2), (b"??/", 25, 3)];
     assert_eq!(rt; joined.count(), 3);
+    assert_eq!(rt; convert_tokens(alloc, &list)?.count(), 3);
     for at in 0..3 {
         let (bytes, column, order) = want[at];
         match joined.get(at) {
