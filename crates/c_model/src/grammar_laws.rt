@@ -45,12 +45,16 @@ pub fn parsed_front_is_begun()
 #[tactic(auto, using(crate::proofs::Forget::same_table))]
 pub fn untested_table_is_grammar()
     ensures { (rule : Rule) → untested (table rule) ≡ grammar rule }
-{
-}
+{}
 
 /// The test at the parenthesis of a primary expression loses no derivation.
 #[tactic(auto, using(crate::proofs::RegainPrimary::regain_unit))]
 pub fn primary_test_loses_nothing()
     ensures { (ts : List Terminal) (xs : List Tree) (new : Scopes) (rest : List Terminal) → Derives open_primary (rule r.Unit) start ts xs new rest → Derives parsed (rule r.Unit) start ts xs new rest }
-{
-}
+{}
+
+/// Nor does it lose a beginning.
+#[tactic(auto, using(crate::proofs::RegainPrimary::regain_begun_unit))]
+pub fn primary_test_loses_no_front()
+    ensures { (ts rest : List Terminal) → Begins open_primary (rule r.Unit) start ts rest → Begins parsed (rule r.Unit) start ts rest }
+{}

@@ -4,8 +4,7 @@ ghost use Rattle.std.specs.Prelude.{◌≡◌};
 ghost use Rattle.c_parser.specs.View.{form};
 ghost use Rattle.c_model.specs.ParserTable as spec;
 
-use crate::declarations as decl;
-use crate::statements as stat;
+use crate::{declarations as decl, statements as stat};
 use c_model::grammar::{Act, Rule, Test};
 
 /// The right side of a production.
