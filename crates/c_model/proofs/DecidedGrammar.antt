@@ -117,7 +117,7 @@ module _ (T : Tables) (L : Language) (quiet : IsQuiet T L) (ok : (r : Rule) → 
   met_again f (inr m) (inr e) = inr (e ∙ m.place)
 
   -- where one that is begun stands: nothing is read yet, or its first word is
-  entry : {f : Form} {s : L.State} {ts rest : List L.Token} → Begins L f s ts rest → Moves f s ts rest ⊎ (rest ≡ ts)
+  pub entry : {f : Form} {s : L.State} {ts rest : List L.Token} → Begins L f s ts rest → Moves f s ts rest ⊎ (rest ≡ ts)
   unfolding first nullable ahead
   entry Begins.yet = inr refl
   entry (Begins.in_word e) = inl (record { shorter = omega arith; begun = e })

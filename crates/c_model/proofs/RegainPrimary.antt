@@ -1,5 +1,5 @@
 -- The test of a parenthesized expression loses no derivation.
-use Rattle.std.proofs.Common.{◌≡◌, ℕ, Bool, true, false, not, ◌&&◌, ◌||◌, List, [], ◌∷◌, refl, sym, ap, ◌∙◌}
+use Rattle.std.proofs.Common.{◌≡◌, ℕ, Bool, true, false, not, ◌&&◌, ◌||◌, List, [], ◌∷◌, refl, sym, ap, subst, ◌∙◌}
 use Rattle.std.specs.Prelude.{◌==◌, if◌then◌else◌}
 use mathlib.Core.Logic.{◌⊎◌, inl, inr}
 use Rattle.c_model.specs.declared.grammar.Rule.{Rule}
@@ -7,17 +7,20 @@ use Rattle.c_model.specs.declared.grammar.Rule.TheVariants as r
 use Rattle.c_model.specs.declared.grammar.Act.TheVariants as act
 use Rattle.c_model.specs.declared.grammar.Terminal.{Terminal}
 use Rattle.c_model.specs.declared.grammar.Tree.{Tree}
-use Rattle.c_model.specs.GrammarForm.{Form, rule, mem}
+use Rattle.c_model.specs.declared.grammar.Test.TheVariants as test
+use Rattle.c_model.specs.GrammarForm.{Form, word, rule, when, ◌then◌, ◌or◌, mem}
+use Rattle.c_model.specs.Grammar.{token}
+use Rattle.c_model.specs.Terminals as k
 use Rattle.c_model.specs.NameScopes.{Scopes, kind, after, bracket_kind, is_closing, closes, is_type, start}
-use Rattle.c_model.specs.Derivation.{Derives}
+use Rattle.c_model.specs.Derivation.{Derives, Begins}
 use Rattle.c_model.specs.DecidedTable.{apart, within, nullable, first}
 use Rattle.c_model.specs.ParserWalk.{ahead}
 use Rattle.c_model.specs.ParserTable.{table}
 use Rattle.c_model.specs.ParserSets.{tables, firsts, hollow}
-use Rattle.c_model.specs.ParserTests.{parsed, begins_type, sees_type_name}
+use Rattle.c_model.specs.ParserTests.{parsed, passes, begins_type, sees_type_name}
 use Rattle.c_model.specs.OpenPrimary.{open_primary, open_primary_table}
 use Rattle.c_model.proofs.KindSets.{apart_mem, within_mem, clash}
-use Rattle.c_model.proofs.DecidedGrammar.{step}
+use Rattle.c_model.proofs.DecidedGrammar.{step, entry}
 use Rattle.c_model.proofs.ParserDecided.{quiet, checked}
 
 -- a form that takes a token begins with one of its first tokens
@@ -114,3 +117,65 @@ regain (Derives.again b d e p) = Derives.again b (regain d) (regain e) p
 
 pub regain_unit : (ts : List Terminal) (xs : List Tree) (new : Scopes) (rest : List Terminal) → Derives open_primary (rule r.Unit) start ts xs new rest → Derives parsed (rule r.Unit) start ts xs new rest
 regain_unit ts xs new rest d = regain d
+
+-- nor a beginning: where only the parenthesis is read, both alternatives are begun by it
+paren : {s : Scopes} {t : Terminal} {us : List Terminal} (b : Bool) → passes test.ParenthesizedExpression s (t ∷ us) ≡ b → mem (kind s t) (66 ∷ []) ≡ true → Begins parsed (when test.ParenthesizedExpression (token k.OpenParenthesis then rule r.Expr then token k.CloseParenthesis) (rule r.Literal)) s (t ∷ us) us
+unfolding table
+paren true b e = Begins.in_chosen b (Begins.in_first (Begins.in_word e))
+paren false b e = Begins.in_other b (Begins.in_rule (Begins.in_first (Begins.in_word e)))
+
+expression : {s : Scopes} {t : Terminal} {us rest : List Terminal} → mem (kind s t) (66 ∷ []) ≡ true → Begins parsed (rule r.Expr) (after act.Pass s t) us rest → Begins parsed (when test.ParenthesizedExpression (token k.OpenParenthesis then rule r.Expr then token k.CloseParenthesis) (rule r.Literal)) s (t ∷ us) rest
+unfolding first
+expression {s = s} {t = t} {us = us} {rest = rest} e d = elim (entry tables parsed quiet checked d) [
+  | inl m ↦ Begins.in_chosen (no_type s t us m.begun) (Begins.in_then (Derives.a_word e) (Begins.in_first d))
+  | inr h ↦ subst (λ z. Begins parsed (when test.ParenthesizedExpression (token k.OpenParenthesis then rule r.Expr then token k.CloseParenthesis) (rule r.Literal)) s (t ∷ us) z) (sym h) (paren (passes test.ParenthesizedExpression s (t ∷ us)) refl e)
+]
+
+type_name : {s : Scopes} {t : Terminal} {us rest : List Terminal} → mem (kind s t) (66 ∷ []) ≡ true → Begins parsed (rule r.Typename) (after act.Pass s t) us rest → Begins parsed (when test.ParenthesizedExpression (token k.OpenParenthesis then rule r.Expr then token k.CloseParenthesis) (rule r.Literal)) s (t ∷ us) rest
+unfolding first table
+type_name {s = s} {t = t} {us = us} {rest = rest} e d = elim (entry tables parsed quiet checked d) [
+  | inl m ↦ Begins.in_other (sees_type s t us e m.begun) (Begins.in_rule (Begins.in_then (Derives.a_word e) (Begins.in_first d)))
+  | inr h ↦ subst (λ z. Begins parsed (when test.ParenthesizedExpression (token k.OpenParenthesis then rule r.Expr then token k.CloseParenthesis) (rule r.Literal)) s (t ∷ us) z) (sym h) (paren (passes test.ParenthesizedExpression s (t ∷ us)) refl e)
+]
+
+pub regain_begun : {f : Form} {s : Scopes} {ts rest : List Terminal} → Begins open_primary f s ts rest → Begins parsed f s ts rest
+unfolding open_primary_table table hollow
+regain_begun Begins.yet = Begins.yet
+regain_begun (Begins.in_word e) = Begins.in_word e
+regain_begun {f = rule r.Primary} (Begins.in_rule Begins.yet) = Begins.yet
+regain_begun {f = rule r.Primary} (Begins.in_rule (Begins.in_left d)) = Begins.in_rule (Begins.in_left (regain_begun d))
+regain_begun {f = rule r.Primary} (Begins.in_rule (Begins.in_right Begins.yet)) = Begins.yet
+regain_begun {f = rule r.Primary} (Begins.in_rule (Begins.in_right (Begins.in_left d))) = Begins.in_rule (Begins.in_right (Begins.in_left (regain_begun d)))
+regain_begun {f = rule r.Primary} (Begins.in_rule (Begins.in_right (Begins.in_right Begins.yet))) = Begins.yet
+regain_begun {f = rule r.Primary} (Begins.in_rule (Begins.in_right (Begins.in_right (Begins.in_left d)))) = Begins.in_rule (Begins.in_right (Begins.in_right (Begins.in_left (regain_begun d))))
+regain_begun {f = rule r.Primary} (Begins.in_rule (Begins.in_right (Begins.in_right (Begins.in_right Begins.yet)))) = Begins.yet
+regain_begun {f = rule r.Primary} (Begins.in_rule (Begins.in_right (Begins.in_right (Begins.in_right (Begins.in_left d))))) = Begins.in_rule (Begins.in_right (Begins.in_right (Begins.in_right (Begins.in_left (regain_begun d)))))
+regain_begun {f = rule r.Primary} (Begins.in_rule (Begins.in_right (Begins.in_right (Begins.in_right (Begins.in_right Begins.yet))))) = Begins.yet
+regain_begun {f = rule r.Primary} (Begins.in_rule (Begins.in_right (Begins.in_right (Begins.in_right (Begins.in_right (Begins.in_left Begins.yet)))))) = Begins.yet
+regain_begun {f = rule r.Primary} (Begins.in_rule (Begins.in_right (Begins.in_right (Begins.in_right (Begins.in_right (Begins.in_left (Begins.in_first Begins.yet))))))) = Begins.yet
+regain_begun {f = rule r.Primary} (Begins.in_rule (Begins.in_right (Begins.in_right (Begins.in_right (Begins.in_right (Begins.in_left (Begins.in_first (Begins.in_word {s = s} {t = t} {ts = us} e)))))))) = Begins.in_rule (Begins.in_right (Begins.in_right (Begins.in_right (Begins.in_right (paren (passes test.ParenthesizedExpression s (t ∷ us)) refl e)))))
+regain_begun {f = rule r.Primary} (Begins.in_rule (Begins.in_right (Begins.in_right (Begins.in_right (Begins.in_right (Begins.in_left (Begins.in_then (Derives.a_word {s = s} {t = t} {ts = us} e) Begins.yet))))))) = Begins.in_rule (Begins.in_right (Begins.in_right (Begins.in_right (Begins.in_right (paren (passes test.ParenthesizedExpression s (t ∷ us)) refl e)))))
+regain_begun {f = rule r.Primary} (Begins.in_rule (Begins.in_right (Begins.in_right (Begins.in_right (Begins.in_right (Begins.in_left (Begins.in_then (Derives.a_word e) (Begins.in_first d)))))))) = Begins.in_rule (Begins.in_right (Begins.in_right (Begins.in_right (Begins.in_right (expression e (regain_begun d))))))
+regain_begun {f = rule r.Primary} (Begins.in_rule (Begins.in_right (Begins.in_right (Begins.in_right (Begins.in_right (Begins.in_left (Begins.in_then (Derives.a_word {s = s} {t = t} {ts = us} e) (Begins.in_then d d')))))))) = let c = regain d in Begins.in_rule (Begins.in_right (Begins.in_right (Begins.in_right (Begins.in_right (Begins.in_chosen (no_type s t us (begun refl c)) (Begins.in_then (Derives.a_word e) (Begins.in_then c (regain_begun d'))))))))
+regain_begun {f = rule r.Primary} (Begins.in_rule (Begins.in_right (Begins.in_right (Begins.in_right (Begins.in_right (Begins.in_right Begins.yet)))))) = Begins.yet
+regain_begun {f = rule r.Primary} (Begins.in_rule (Begins.in_right (Begins.in_right (Begins.in_right (Begins.in_right (Begins.in_right (Begins.in_rule Begins.yet))))))) = Begins.yet
+regain_begun {f = rule r.Primary} (Begins.in_rule (Begins.in_right (Begins.in_right (Begins.in_right (Begins.in_right (Begins.in_right (Begins.in_rule (Begins.in_first Begins.yet)))))))) = Begins.yet
+regain_begun {f = rule r.Primary} (Begins.in_rule (Begins.in_right (Begins.in_right (Begins.in_right (Begins.in_right (Begins.in_right (Begins.in_rule (Begins.in_first (Begins.in_word {s = s} {t = t} {ts = us} e))))))))) = Begins.in_rule (Begins.in_right (Begins.in_right (Begins.in_right (Begins.in_right (paren (passes test.ParenthesizedExpression s (t ∷ us)) refl e)))))
+regain_begun {f = rule r.Primary} (Begins.in_rule (Begins.in_right (Begins.in_right (Begins.in_right (Begins.in_right (Begins.in_right (Begins.in_rule (Begins.in_then (Derives.a_word {s = s} {t = t} {ts = us} e) Begins.yet)))))))) = Begins.in_rule (Begins.in_right (Begins.in_right (Begins.in_right (Begins.in_right (paren (passes test.ParenthesizedExpression s (t ∷ us)) refl e)))))
+regain_begun {f = rule r.Primary} (Begins.in_rule (Begins.in_right (Begins.in_right (Begins.in_right (Begins.in_right (Begins.in_right (Begins.in_rule (Begins.in_then (Derives.a_word e) (Begins.in_first d))))))))) = Begins.in_rule (Begins.in_right (Begins.in_right (Begins.in_right (Begins.in_right (type_name e (regain_begun d))))))
+regain_begun {f = rule r.Primary} (Begins.in_rule (Begins.in_right (Begins.in_right (Begins.in_right (Begins.in_right (Begins.in_right (Begins.in_rule (Begins.in_then (Derives.a_word {s = s} {t = t} {ts = us} e) (Begins.in_then d d'))))))))) = let c = regain d in Begins.in_rule (Begins.in_right (Begins.in_right (Begins.in_right (Begins.in_right (Begins.in_other (sees_type s t us e (begun refl c)) (Begins.in_rule (Begins.in_then (Derives.a_word e) (Begins.in_then c (regain_begun d')))))))))
+regain_begun (Begins.in_rule d) = Begins.in_rule (regain_begun d)
+regain_begun (Begins.in_first d) = Begins.in_first (regain_begun d)
+regain_begun (Begins.in_then d e) = Begins.in_then (regain d) (regain_begun e)
+regain_begun (Begins.in_left d) = Begins.in_left (regain_begun d)
+regain_begun (Begins.in_right d) = Begins.in_right (regain_begun d)
+regain_begun (Begins.in_maybe d) = Begins.in_maybe (regain_begun d)
+regain_begun (Begins.in_turn d) = Begins.in_turn (regain_begun d)
+regain_begun (Begins.in_later d e) = Begins.in_later (regain d) (regain_begun e)
+regain_begun (Begins.in_chosen b d) = Begins.in_chosen b (regain_begun d)
+regain_begun (Begins.in_other b d) = Begins.in_other b (regain_begun d)
+regain_begun (Begins.in_again b d) = Begins.in_again b (regain_begun d)
+regain_begun (Begins.in_further b d e) = Begins.in_further b (regain d) (regain_begun e)
+
+pub regain_begun_unit : (ts rest : List Terminal) → Begins open_primary (rule r.Unit) start ts rest → Begins parsed (rule r.Unit) start ts rest
+regain_begun_unit ts rest d = regain_begun d

@@ -1,4 +1,4 @@
--- What a grammar derives, and what it begins. The tokens are read from the left, and each reads the scopes that those
+-- What a grammar derives, and what it begins: of any language, that of the grammar and that of the parser's table. The tokens are read from the left, and each reads the scopes that those
 -- before it left.
 use Rattle.std.specs.Prelude.{ℕ, ◌≡◌, Bool, true, false, List, [], ◌∷◌, ◌++◌}
 use Rattle.c_model.specs.declared.grammar.Rule.{Rule}

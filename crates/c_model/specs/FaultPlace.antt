@@ -1,4 +1,5 @@
--- The place of the first syntax error: the first token with which no derivation can go on.
+-- The place of the first syntax error: the first token with which no derivation can go on. It is stated of any language:
+-- the place that is meant is that of the grammar's, and the parser is proved to answer that of its own table.
 use Rattle.std.specs.Prelude.{ℕ, ◌≤◌, ◌≡◌, ◌+◌, List, [], length, drop}
 use Rattle.c_model.specs.GrammarForm.{Form}
 use Rattle.c_model.specs.Derivation.{Language, Derives, Begins}

@@ -14,10 +14,10 @@ use std::alloc::Global;
 pub enum Refusal {
     /// There is no memory.
     Memory,
-    /// The token of this rank stands in more than 1,000 nested parts.
+    /// The token of this rank begins a part inside 1,000 others.
     Deep(usize),
-    /// S01: the token of this rank is the first with which no translation unit can go on; the number of tokens, where
-    /// they are the front of a unit and no unit.
+    /// S01: the token of this rank is the first with which no translation unit can go on, by the parser's table; the
+    /// number of tokens, where they are the front of a unit and no unit.
     Fault(usize),
 }
 
@@ -27,6 +27,9 @@ const UNIT: &Form = &Form::Rule(Rule::Unit);
 const MAX_DEPTH: usize = 1000;
 
 /// The trees of a translation unit (ISO/IEC 9899:2024, 6.9), which are one, or why there is none.
+///
+/// The tree is one that the grammar derives, and the only one of the parser's table. The tokens before a fault begin a
+/// unit by the grammar, and no longer front does by the parser's table.
 pub fn parse(alloc: Global, tokens: &[Terminal]) -> Result<Items<Tree>, Refusal>
     ensures { Parsed tokens.now result }
 {
