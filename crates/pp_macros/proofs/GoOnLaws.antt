@@ -1,13 +1,15 @@
 -- A call that goes on, taken apart and put together again.
-use Rattle.std.proofs.Common.{◌≡◌, ℕ, zero, suc, ◌+◌, ◌-◌, ◌*◌, ◌<◌, ◌≤◌, Bool, true, false, max, List, [], ◌∷◌, ◌++◌, length, Option, Some, None, Result, Ok, Err, refl, ap, subst, sym, ◌∙◌, arith, length-append}
+use Rattle.std.proofs.Common.{◌≡◌, ℕ, zero, suc, ◌+◌, ◌-◌, ◌*◌, ◌<◌, ◌≤◌, Bool, true, false, max, List, [], ◌∷◌, ◌++◌, length, map, drop, Option, Some, None, Result, Ok, Err, refl, ap, subst, sym, ◌∙◌, arith, length-append}
 use Rattle.c_model.specs.PpTokens.{PpToken}
 use Rattle.c_model.specs.Macros.{Macro, Macros}
-use Rattle.c_model.specs.MacroArguments.{Painted, Run}
-use Rattle.c_model.specs.Substitution.{Argument, Use, written, with_replaced, variable_rank, wanted, substituted}
+use Rattle.std.specs.Option.{is_some, MatchOption}
+use Rattle.c_model.specs.HideSets.{common, with_rank}
+use Rattle.c_model.specs.MacroArguments.{Painted, Run, Inside, inside, placed, arguments}
+use Rattle.c_model.specs.Substitution.{Argument, Use, unreplaced, uses, written, with_replaced, variable_rank, wanted, substituted}
 use Rattle.c_model.specs.Expansion.{Answer, Stop, MADE, Call, Fills}
 use Rattle.pp_macros.specs.declared.errors.MacroError.{MacroError}
 use Rattle.pp_macros.specs.declared.errors.MacroError.TheVariants as macro_error
-use Rattle.pp_macros.specs.Machine.{Waiting, from_wanted, Gives, GoesOn, Finishes, Stops, arguments_weight, waiting_weight, all_weight, left}
+use Rattle.pp_macros.specs.Machine.{Waiting, Called, from_wanted, Gives, GoesOn, Finishes, Stops, arguments_weight, waiting_weight, all_weight, left}
 use Rattle.pp_macros.proofs.MachineLaws.{asking, asks, goes_body, goes_stopped, wanted-first, wanted-unreplaced, lighter_by}
 
 pub asking-lighter : (f : Waiting) (fs : List Waiting) (u : Use) (us : List Use) → from_wanted f.args (variable_rank f.call.def) f.uses ≡ u ∷ us →
@@ -106,3 +108,27 @@ Stopped-parts table f fs made more name hides def after uses args args' args'' r
     let s : Stops (Fills table g.call [] args made) e more = subst (λ (z : List Argument). Stops (Fills table g.call [] z made) e more) same' fin in
     subst (λ (z : Waiting). Stops (GoesOn table z fs made) e more) view
       (Stops-map (Fills table g.call [] args made) (GoesOn table g fs made) e more (λ x h. goes_stopped table g fs made x n h) s)
+
+-- ---- a call begins
+
+pub some-of : {A : Type 0} (o : Option A) → is_some o ≡ true → (x : A) × (o ≡ Some x)
+some-of None h = cc
+some-of (Some x) h = (x, refl)
+
+pub drop-popped : (o : Option Painted) (old new : Run) → MatchOption o ((old ≡ []) × (new ≡ [])) (λ p. old ≡ p ∷ new) → new ≡ drop 1 old
+drop-popped None old new h = h.1 ∙ ap (drop 1) (sym h.0)
+drop-popped (Some p) old new h = ap (drop 1) (sym h)
+
+pub Called-parts : (p : Painted) (n : ℕ) (m : Macro) (ps out : Run) (popped : Option Painted) (front rest : Run) (run : Run) (close : Painted) (o : Option (List Run)) (runs : List Run) (name : PpToken) (both all : List ℕ) (us us' : List Use) (args : List Argument) →
+    MatchOption popped ((ps ≡ []) × (front ≡ [])) (λ q. ps ≡ q ∷ front) →
+    placed p.tok.place (inside 0 front) ≡ Some (record { tokens = run; close = close; rest = rest }) → o ≡ arguments m run → o ≡ Some runs →
+    name ≡ p.tok → both ≡ common p.hides close.hides → all ≡ with_rank both n → us ≡ us' → us' ≡ uses m → args ≡ map unreplaced runs →
+    Called p n m ps out (waiting name all m rest us args 0 out)
+Called-parts p n m ps out popped front rest run close o runs name both all us us' args pop at split is named meets adds one two made =
+    let d = drop-popped popped ps front pop in
+    let i : Inside = record { tokens = run; close = close; rest = rest } in
+    record { i = i; runs = runs; found = ap (λ (z : Run). placed p.tok.place (inside 0 z)) (sym d) ∙ at; counted = sym split ∙ is;
+      is = ap (λ (z : PpToken). waiting z all m rest us args 0 out) named
+        ∙ ap (λ (z : List ℕ). waiting p.tok z m rest us args 0 out) (adds ∙ ap (λ z. with_rank z n) meets)
+        ∙ ap (λ (z : List Use). waiting p.tok (with_rank (common p.hides close.hides) n) m rest z args 0 out) (one ∙ two)
+        ∙ ap (λ (z : List Argument). waiting p.tok (with_rank (common p.hides close.hides) n) m rest (uses m) z 0 out) made }

@@ -7,7 +7,9 @@ ghost use Rattle.c_model.specs.MacroArguments as arguments;
 ghost use Rattle.c_model.specs.Pasting as pasting;
 ghost use Rattle.c_model.specs.Substitution as substitution;
 ghost use Rattle.c_model.specs.MacroDefinitions as definitions;
-ghost use Rattle.pp_macros.specs.Machine.{Charges, Finishes, Stops, Gives, GoesOn, Expanded, from_wanted, waiting_weight, all_weight, left};
+ghost use Rattle.pp_macros.specs.Machine.{Charges, Finishes, Stops, Gives, GoesOn, Expanded, Shown, Called, Refused, from_wanted, waiting_weight, all_weight, left};
+ghost use Rattle.c_model.specs.ExpansionRules.{Stays};
+ghost use Rattle.c_model.specs.ExpansionRules as rules;
 
 use crate::arguments::{count_of, inside, opens, split};
 use crate::definition::{MacroDef, fault};
@@ -161,4 +163,84 @@ fn go_on<'a>(
             })
         }
     }
+}
+
+/// The macro that replaces the token; none where the token stays.
+fn shown<'a>(
+    table: &'a MacroTable,
+    p: &Painted,
+    pending: &Stack<Painted>,
+) -> Option<(usize, &'a MacroDef)>
+    ensures { MatchOption result (Stays table.now p.now pending.now) (λ r. Shown table.now p.now pending.now r.0 r.1.now) }
+{
+    let Some((rank, def)) = table.ranked(p.tok.spelling()) else {
+        return None;
+    };
+    if p.hides.holds(rank) {
+        return None;
+    }
+    if def.params().is_some() && !opens(pending) {
+        return None;
+    }
+    Some((rank, def))
+}
+
+/// The call that a macro without parameters is.
+fn object_call<'a>(
+    alloc: Global,
+    p: &Painted,
+    rank: usize,
+    def: &'a MacroDef,
+    rest: Stack<Painted>,
+    out: Row<Painted>,
+) -> Result<Waiting<'a>, NoMemory>
+    ensures { IfOk result (λ w. w ≡ record { call = rules.object_call p.now rank def.now rest; uses = []; args = []; rank = 0; out = out }) }
+{
+    let mut hides = p.hides.copy(alloc)?;
+    hides.add(rank)?;
+    Ok(Waiting {
+        name: p.tok.copy(alloc)?,
+        hides,
+        def,
+        rest,
+        uses: Stack::new(Row::new(alloc)),
+        args: Vec::new(alloc),
+        rank: 0,
+        out,
+    })
+}
+
+/// The call of a macro like a function, whose parenthesis is at the front.
+fn function_call<'a>(
+    alloc: Global,
+    p: &Painted,
+    rank: usize,
+    def: &'a MacroDef,
+    rest: Stack<Painted>,
+    out: Row<Painted>,
+) -> Result<Waiting<'a>, MacroError>
+    requires { arguments.opens rest ≡ true }
+    ensures called { IfOk result (λ w. Called p.now rank def.now rest out w) }
+    ensures refused { IfErr result (λ e. Refused p.now def.now rest e) }
+{
+    let mut pending = rest;
+    let _ = pending.pop();
+    let Some((run, close)) = inside(alloc, p.tok.place, &mut pending)? else {
+        return Err(fault(p.tok.place, 7));
+    };
+    let Some(runs) = split(alloc, def, run)? else {
+        return Err(fault(p.tok.place, 6));
+    };
+    let mut hides = p.hides.common(alloc, &close.hides)?;
+    hides.add(rank)?;
+    Ok(Waiting {
+        name: p.tok.copy(alloc)?,
+        hides,
+        def,
+        rest: pending,
+        uses: Stack::new(uses(alloc, def)?),
+        args: unreplaced(alloc, runs)?,
+        rank: 0,
+        out,
+    })
 }
