@@ -69,7 +69,7 @@ abbrev pub fill : Macros → Rest → Call → List Use → List Argument → �
 fill table rec c [] args made = finish rec c (substituted table.files c.name c.hides c.def args) made
 fill table rec c (u ∷ us) args made =
     if wanted args (variable_rank c.def) u then
-      after (rec (written args u.rank) made) (λ v m. fill table rec c us (with_replaced args u.rank v) m)
+    after (rec (written args u.rank) made) (λ v m. fill table rec c us (with_replaced args u.rank v) m)
     else fill table rec c us args made
 
 abbrev pub call_with : Macros → Rest → Call → Option (List Run) → ℕ → Option Answer
@@ -80,7 +80,7 @@ abbrev pub call : Macros → Rest → Painted → ℕ → Macro → Option Insid
 call table rec p n m None made = faulty p.tok.place 7 made
 call table rec p n m (Some i) made =
     call_with table rec (record { name = p.tok; hides = with_rank (common p.hides i.close.hides) n; def = m; rest = i.rest })
-      (arguments m i.tokens) made
+    (arguments m i.tokens) made
 
 abbrev pub at_kind : Macros → Rest → Painted → ℕ → Macro → Option (List (List ℕ)) → Run → ℕ → Option Answer
 at_kind table rec p n m None ps made =

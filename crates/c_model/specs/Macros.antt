@@ -81,8 +81,12 @@ outset = record { file = 0; line = 1; column = 1; order = 0 }
 -- a macro without parameters, of one token
 abbrev pub predefined : List ℕ → PpKind → List ℕ → Role → Macro
 predefined name kind spelling role = record {
-  at = outset; name = name; params = None; variadic = false;
-  body = (record { tok = record { kind = kind; place = outset; first = false; space = false; spelling = spelling }; role = role }) ∷ [] }
+  at = outset;
+  name = name;
+  params = None;
+  variadic = false;
+  body = (record { tok = record { kind = kind; place = outset; first = false; space = false; spelling = spelling }; role = role }) ∷ [];
+}
 
 abbrev pub FILE : List ℕ
 FILE = codes "__FILE__"
@@ -106,12 +110,13 @@ CAKE = codes "__CAKE__"
 unfoldable pub first_table : Macros
 first_table = record {
   entries = (FILE, predefined FILE Name FILE File)
-    ∷ (LINE, predefined LINE Name LINE Line)
-    ∷ (STDC, predefined STDC Number (codes "1") Plain)
-    ∷ (STDC_VERSION, predefined STDC_VERSION Number (codes "202311L") Plain)
-    ∷ (STDC_HOSTED, predefined STDC_HOSTED Number (codes "1") Plain)
-    ∷ (CAKE, predefined CAKE Number (codes "1") Plain) ∷ [];
-  files = [] }
+      ∷ (LINE, predefined LINE Name LINE Line)
+      ∷ (STDC, predefined STDC Number (codes "1") Plain)
+      ∷ (STDC_VERSION, predefined STDC_VERSION Number (codes "202311L") Plain)
+      ∷ (STDC_HOSTED, predefined STDC_HOSTED Number (codes "1") Plain)
+      ∷ (CAKE, predefined CAKE Number (codes "1") Plain) ∷ [];
+  files = [];
+}
 
 -- ---- redefinition (6.10.5, constraints 1 and 2)
 

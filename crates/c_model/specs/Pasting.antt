@@ -55,7 +55,9 @@ without_placemarkers ps = filter (λ p. not (is_placemarker p)) ps
 abbrev pub of_kind : Painted → Painted → Option PpKind → Option Painted
 of_kind p q None = None
 of_kind p q (Some kind) = Some (record {
-  tok = record p.tok { kind = kind; spelling = p.tok.spelling ++ q.tok.spelling }; hides = common p.hides q.hides })
+  tok = record p.tok { kind = kind; spelling = p.tok.spelling ++ q.tok.spelling };
+  hides = common p.hides q.hides;
+})
 
 -- A placemarker gives the other operand, which begins as a left operand does. Two tokens give the
 -- token that they spell together, if it is one.

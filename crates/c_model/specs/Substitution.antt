@@ -202,4 +202,4 @@ text_for name hides run = map (paint name.place hides) (headed name (without_pla
 abbrev pub substituted : List (ℕ × List ℕ) → PpToken → List ℕ → Macro → List Argument → Option Run
 substituted files name hides m args =
     option_map (text_for name hides)
-      (filled (record { args = args; varies = varies args (variable_rank m); file = file_name name.place.file files; line = name.place.line }) (Some empty_filling) m.body)
+    (filled (record { args = args; varies = varies args (variable_rank m); file = file_name name.place.file files; line = name.place.line }) (Some empty_filling) m.body)

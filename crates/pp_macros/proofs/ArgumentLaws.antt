@@ -26,8 +26,9 @@ pub parts-first : (commas depth : ℕ) (run : Run) → to_first [] (parts commas
 parts-first commas depth [] = refl
 parts-first commas depth (p ∷ ps) =
     elim (spells COMMA p.tok && depth == 0 && nat_lt 0 commas) as (λ t. to_first [] (cond t ([] ∷ parts (commas - 1) depth ps) (onto p (parts commas (deeper depth p.tok) ps))) ≡ cond t ([] ∷ parts (commas - 1) depth ps) (onto p (parts commas (deeper depth p.tok) ps))) [
-      true ↦ refl
-    | false ↦ onto-first p (parts commas (deeper depth p.tok) ps) ]
+      | true ↦ refl
+      | false ↦ onto-first p (parts commas (deeper depth p.tok) ps)
+    ]
 
 pub all_in_front-placed : (place : Place) (xs : Run) (p : Painted) (o : Option Inside) → all_in_front xs (placed place (in_front p o)) ≡ all_in_front (xs ++ at_place place p ∷ []) (placed place o)
 all_in_front-placed place xs p None = refl

@@ -53,11 +53,16 @@ pub Asked-parts : (f : Waiting) (fs calls : List Waiting) (pending out : Run) (n
 Asked-parts f fs calls pending out name hides def after uses us args args' args'' seen rank before last u u' empty run view lasts same next is set none pushed put runs same' emptied =
     let g : Waiting = waiting name hides def after uses args rank before in
     let n : from_wanted args (variable_rank def) uses ≡ u ∷ us =
-        ap (λ (z : List Argument). from_wanted z (variable_rank def) uses) (sym same) ∙ ap (λ l. from_wanted args' l uses) (sym lasts) ∙ next ∙ ap (λ (z : Use). z ∷ us) (sym is) in
+    ap (λ (z : List Argument). from_wanted z (variable_rank def) uses) (sym same) ∙ ap (λ l. from_wanted args' l uses) (sym lasts) ∙ next ∙ ap (λ (z : Use). z ∷ us) (sym is) in
     let s : seen ≡ with_replaced args u.rank [] = set ∙ ap (with_replaced args u.rank) none in
-    let x : Asked g fs calls pending out = record { asked = u; rest = us; next = n;
+    let x : Asked g fs calls pending out = record {
+      asked = u;
+      rest = us;
+      next = n;
       waits = pushed ∙ ap (λ (z : List Argument). waiting name hides def after us z u.rank before ∷ fs) s;
-      argument = put ∙ runs ∙ ap (λ (z : List Argument). written z u.rank) same'; empty = emptied } in
+      argument = put ∙ runs ∙ ap (λ (z : List Argument). written z u.rank) same';
+      empty = emptied;
+    } in
     subst (λ (z : Waiting). Asked z fs calls pending out) view x
 
 -- the state in which the text of a call is there
@@ -88,9 +93,15 @@ pub Done-parts : (table : Macros) (f : Waiting) (made more : ℕ) (pending out :
     Finishes table (record { name = name; hides = hides; def = def; rest = after }) args'' made (Ok body) more → pending ≡ body ++ after → out ≡ before → Done table f made more pending out
 Done-parts table f made more pending out name hides def after uses args args' args'' rank before last body view lasts same next same' fin put emptied =
     let g : Waiting = waiting name hides def after uses args rank before in
-    let x : Done table g made more pending out = record { body = body;
+    let x : Done table g made more pending out = record {
+      body = body;
       none = ap (λ (z : List Argument). from_wanted z (variable_rank def) uses) (sym same) ∙ ap (λ l. from_wanted args' l uses) (sym lasts) ∙ next;
-      text = ap (λ (z : List Argument). substituted table.files name hides def z) (sym same') ∙ fin.0; count = fin.1; fits = fin.2; put = put; before = emptied } in
+      text = ap (λ (z : List Argument). substituted table.files name hides def z) (sym same') ∙ fin.0;
+      count = fin.1;
+      fits = fin.2;
+      put = put;
+      before = emptied;
+    } in
     subst (λ (z : Waiting). Done table z made more pending out) view x
 
 -- a call that ends all
@@ -107,7 +118,7 @@ Stopped-parts table f fs made more name hides def after uses args args' args'' r
     let n : from_wanted args (variable_rank def) uses ≡ [] = ap (λ (z : List Argument). from_wanted z (variable_rank def) uses) (sym same) ∙ ap (λ l. from_wanted args' l uses) (sym lasts) ∙ next in
     let s : Stops (Fills table g.call [] args made) e more = subst (λ (z : List Argument). Stops (Fills table g.call [] z made) e more) same' fin in
     subst (λ (z : Waiting). Stops (GoesOn table z fs made) e more) view
-      (Stops-map (Fills table g.call [] args made) (GoesOn table g fs made) e more (λ x h. goes_stopped table g fs made x n h) s)
+    (Stops-map (Fills table g.call [] args made) (GoesOn table g fs made) e more (λ x h. goes_stopped table g fs made x n h) s)
 
 -- ---- a call begins
 
@@ -127,8 +138,13 @@ pub Called-parts : (p : Painted) (n : ℕ) (m : Macro) (ps out : Run) (popped : 
 Called-parts p n m ps out popped front rest run close o runs name both all us us' args pop at split is named meets adds one two made =
     let d = drop-popped popped ps front pop in
     let i : Inside = record { tokens = run; close = close; rest = rest } in
-    record { i = i; runs = runs; found = ap (λ (z : Run). placed p.tok.place (inside 0 z)) (sym d) ∙ at; counted = sym split ∙ is;
+    record {
+      i = i;
+      runs = runs;
+      found = ap (λ (z : Run). placed p.tok.place (inside 0 z)) (sym d) ∙ at;
+      counted = sym split ∙ is;
       is = ap (λ (z : PpToken). waiting z all m rest us args 0 out) named
-        ∙ ap (λ (z : List ℕ). waiting p.tok z m rest us args 0 out) (adds ∙ ap (λ z. with_rank z n) meets)
-        ∙ ap (λ (z : List Use). waiting p.tok (with_rank (common p.hides close.hides) n) m rest z args 0 out) (one ∙ two)
-        ∙ ap (λ (z : List Argument). waiting p.tok (with_rank (common p.hides close.hides) n) m rest (uses m) z 0 out) made }
+          ∙ ap (λ (z : List ℕ). waiting p.tok z m rest us args 0 out) (adds ∙ ap (λ z. with_rank z n) meets)
+          ∙ ap (λ (z : List Use). waiting p.tok (with_rank (common p.hides close.hides) n) m rest z args 0 out) (one ∙ two)
+          ∙ ap (λ (z : List Argument). waiting p.tok (with_rank (common p.hides close.hides) n) m rest (uses m) z 0 out) made;
+    }

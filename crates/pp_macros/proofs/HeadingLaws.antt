@@ -38,7 +38,7 @@ after_names-new seen n None h = refl
 after_names-new seen n (Some p) h =
     let one : (is_some (rank n seen) || repeated (seen ++ n ∷ []) p.names) ≡ repeated (seen ++ n ∷ []) p.names = rw h refl in
     ap (λ b. cond b None (Some (record p { names = seen ++ n ∷ p.names }))) one
-      ∙ ap (λ ns. cond (repeated (seen ++ n ∷ []) p.names) None (Some (record p { names = ns }))) (sym (append_assoc seen (n ∷ []) p.names))
+    ∙ ap (λ ns. cond (repeated (seen ++ n ∷ []) p.names) None (Some (record p { names = ns }))) (sym (append_assoc seen (n ∷ []) p.names))
 
 -- a name that stood before
 pub after_names-again : (seen : List (List ℕ)) (n : List ℕ) (o : Option Parameters) → is_some (rank n seen) ≡ true → after_names seen (with_name n o) ≡ None

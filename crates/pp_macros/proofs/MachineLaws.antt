@@ -29,15 +29,17 @@ pub Fills-from_wanted : (table : Macros) (c : Call) (us : List Use) (args : List
 Fills-from_wanted table c [] args made a = λ x. x
 Fills-from_wanted table c (u ∷ us) args made a =
     elim (wanted args (variable_rank c.def) u) as (λ b. wanted args (variable_rank c.def) u ≡ b → Fills table c (cond b (u ∷ us) (from_wanted args (variable_rank c.def) us)) args made a → Fills table c (u ∷ us) args made a) [
-      true ↦ λ h x. x
-    | false ↦ λ h x. Fills-other table c u us args made a h (Fills-from_wanted table c us args made a x) ] refl
+      | true ↦ λ h x. x
+      | false ↦ λ h x. Fills-other table c u us args made a h (Fills-from_wanted table c us args made a x)
+    ] refl
 
 pub wanted-first : (args : List Argument) (last : ℕ) (us : List Use) (u : Use) (rest : List Use) → from_wanted args last us ≡ u ∷ rest → wanted args last u ≡ true
 wanted-first args last [] u rest = λ h. cc
 wanted-first args last (x ∷ xs) u rest =
     elim (wanted args last x) as (λ b. wanted args last x ≡ b → cond b (x ∷ xs) (from_wanted args last xs) ≡ u ∷ rest → wanted args last u ≡ true) [
-      true ↦ λ h e. let q : x ≡ u = cc in ap (wanted args last) (sym q) ∙ h
-    | false ↦ λ h e. wanted-first args last xs u rest e ] refl
+      | true ↦ λ h e. let q : x ≡ u = cc in ap (wanted args last) (sym q) ∙ h
+      | false ↦ λ h e. wanted-first args last xs u rest e
+    ] refl
 
 -- ---- arguments
 
@@ -59,10 +61,11 @@ get_set (y ∷ ys) (suc k) a x h = get_set ys k a x h
 pub replaced_twice : (args : List Argument) (k : ℕ) (v w : Run) → with_replaced (with_replaced args k v) k w ≡ with_replaced args k w
 replaced_twice args k v w =
     elim (slice_get args k) as (λ o. slice_get args k ≡ o → slice_set (slice_set args k (with_run v (slice_get args k))) k (with_run w (slice_get (slice_set args k (with_run v (slice_get args k))) k)) ≡ slice_set args k (with_run w (slice_get args k))) [
-      None ↦ λ h. twice_set args k _ _ ∙ set_nothing args k _ _ h
-    | Some x ↦ λ h. twice_set args k _ _
-        ∙ ap (λ o. slice_set args k (with_run w o)) (get_set args k (with_run v (slice_get args k)) x h)
-        ∙ ap (λ (r : Run). slice_set args k (record { written = r; replaced = Some w })) (refl) ] refl
+      | None ↦ λ h. twice_set args k _ _ ∙ set_nothing args k _ _ h
+      | Some x ↦ λ h. twice_set args k _ _
+          ∙ ap (λ o. slice_set args k (with_run w o)) (get_set args k (with_run v (slice_get args k)) x h)
+          ∙ ap (λ (r : Run). slice_set args k (record { written = r; replaced = Some w })) (refl)
+    ] refl
 
 pub lighter : (args : List Argument) (k : ℕ) (v : Run) → arguments_weight (with_replaced args k v) ≤ arguments_weight args
 lighter [] k v = omega arith
@@ -99,38 +102,49 @@ pub asks : (table : Macros) (f : Waiting) (fs : List Waiting) (u : Use) (us : Li
 asks table f fs u us made a h g =
     let w = wanted-first f.args (variable_rank f.call.def) f.uses u us h in
     let lift : (c : Answer) → Fills table f.call (u ∷ us) f.args made c → Fills table f.call f.uses f.args made c =
-        λ c x. Fills-from_wanted table f.call f.uses f.args made c (subst (λ (z : List Use). Fills table f.call z f.args made c) (sym h) x) in
+    λ c x. Fills-from_wanted table f.call f.uses f.args made c (subst (λ (z : List Use). Fills table f.call z f.args made c) (sym h) x) in
     elim g.inner as (λ b. Expands table (written f.args u.rank) made b → Ends table (asking f u us ∷ fs) (with_front [] b) a → GoesOn table f fs made a) [
-      Err e ↦ λ x y. record { inner = Err e; fills = lift (Err e) (Fills-stopped table f.call u us f.args made e w x); ends = subst (λ (z : Answer). Ends table fs (Err e) z) (sym y) (Ends-stopped table fs e) }
-    | Ok v ↦ λ x y. record { inner = y.0;
+      | Err e ↦ λ x y. record { inner = Err e; fills = lift (Err e) (Fills-stopped table f.call u us f.args made e w x); ends = subst (λ (z : Answer). Ends table fs (Err e) z) (sym y) (Ends-stopped table fs e) }
+      | Ok v ↦ λ x y. record {
+        inner = y.0;
         fills = lift y.0 (Fills-next table f.call u us f.args made v.0 v.1 y.0 w x (subst (λ (z : List Argument). Fills table f.call us z v.1 y.0) (replaced_twice f.args u.rank [] v.0) y.1));
-        ends = y.2 }
+        ends = y.2;
+      }
     ] g.expands g.ends
 
 pub goes_body : (table : Macros) (f : Waiting) (fs : List Waiting) (made : ℕ) (body : Run) (more : ℕ) (a : Answer) →
     from_wanted f.args (variable_rank f.call.def) f.uses ≡ [] → substituted table.files f.call.name f.call.hides f.call.def f.args ≡ Some body → more ≡ made + max 1 (length body) → more ≤ MADE →
     Gives table fs (body ++ f.call.rest) f.out more a → GoesOn table f fs made a
-goes_body table f fs made body more a none is count fits g = record { inner = g.inner;
+goes_body table f fs made body more a none is count fits g = record {
+  inner = g.inner;
   fills = Fills-from_wanted table f.call f.uses f.args made g.inner (subst (λ (z : List Use). Fills table f.call z f.args made g.inner) (sym none) (Fills-body table f.call f.args made body more g.inner is count fits g.expands));
-  ends = g.ends }
+  ends = g.ends;
+}
 
 pub goes_stopped : (table : Macros) (f : Waiting) (fs : List Waiting) (made : ℕ) (e : Stop × ℕ) → from_wanted f.args (variable_rank f.call.def) f.uses ≡ [] → Fills table f.call [] f.args made (Err e) → GoesOn table f fs made (Err e)
-goes_stopped table f fs made e none x = record { inner = Err e;
+goes_stopped table f fs made e none x = record {
+  inner = Err e;
   fills = Fills-from_wanted table f.call f.uses f.args made (Err e) (subst (λ (z : List Use). Fills table f.call z f.args made (Err e)) (sym none) x);
-  ends = Ends-stopped table fs e }
+  ends = Ends-stopped table fs e;
+}
 
 -- ---- a list is worked through
 
 pub kept : (table : Macros) (fs : List Waiting) (p : Painted) (ps out all : Run) (made : ℕ) (a : Answer) → Stays table p ps → all ≡ out ++ p ∷ [] → Gives table fs ps all made a → Gives table fs (p ∷ ps) out made a
-kept table fs p ps out all made a s is g = record { inner = with_front (p ∷ []) g.inner;
+kept table fs p ps out all made a s is g = record {
+  inner = with_front (p ∷ []) g.inner;
   expands = s.stays made g.inner g.expands;
-  ends = subst (λ (z : Answer). Ends table fs z a) (ap (λ (z : Run). with_front z g.inner) is ∙ sym (with_front-twice out (p ∷ []) g.inner)) g.ends }
+  ends = subst (λ (z : Answer). Ends table fs z a) (ap (λ (z : Run). with_front z g.inner) is ∙ sym (with_front-twice out (p ∷ []) g.inner)) g.ends;
+}
 
 -- the innermost list is done
 pub resumed : (table : Macros) (f : Waiting) (fs : List Waiting) (out : Run) (made : ℕ) (a : Answer) →
     GoesOn table (record f { args = with_replaced f.args f.rank out }) fs made a → Gives table (f ∷ fs) [] out made a
-resumed table f fs out made a g = record { inner = Ok ([], made); expands = Expands-nil table made;
-  ends = (g.inner, subst (λ (z : Run). Fills table f.call f.uses (with_replaced f.args f.rank z) made g.inner) (sym (append-nil out)) g.fills, g.ends) }
+resumed table f fs out made a g = record {
+  inner = Ok ([], made);
+  expands = Expands-nil table made;
+  ends = (g.inner, subst (λ (z : Run). Fills table f.call f.uses (with_replaced f.args f.rank z) made g.inner) (sym (append-nil out)) g.fills, g.ends);
+}
 
 pub all_done : (table : Macros) (out : Run) (made : ℕ) → Gives table [] [] out made (Ok (out, made))
 all_done table out made = record { inner = Ok ([], made); expands = Expands-nil table made; ends = ap (λ (z : Run). let r : Answer = Ok (z, made) in r) (sym (append-nil out)) }

@@ -27,7 +27,7 @@ pub rank-position : {K : Type 0} (text : K → List ℕ) (name : List ℕ) (ks :
 rank-position text name [] = refl
 rank-position text name (k ∷ ks) =
     position_first (λ q. same_text name (text q)) k ks
-      ∙ ap (λ o. cond (same_text name (text k)) (Some 0) o) (ap (option_map suc) (rank-position text name ks) ∙ sym (one_more-is (rank name (map text ks))))
+    ∙ ap (λ o. cond (same_text name (text k)) (Some 0) o) (ap (option_map suc) (rank-position text name ks) ∙ sym (one_more-is (rank name (map text ks))))
 
 some_more : (o : Option ℕ) → is_some (one_more o) ≡ is_some o
 some_more None = refl
@@ -38,13 +38,15 @@ pub rank-any : {K : Type 0} (text : K → List ℕ) (name : List ℕ) (ks : List
 rank-any text name [] = refl
 rank-any text name (k ∷ ks) =
     elim (same_text name (text k)) as (λ b. is_some (cond b (Some 0) (one_more (rank name (map text ks)))) ≡ (b || list_any (λ q. same_text name (text q)) ks)) [
-      true ↦ refl
-    | false ↦ some_more (rank name (map text ks)) ∙ rank-any text name ks ]
+      | true ↦ refl
+      | false ↦ some_more (rank name (map text ks)) ∙ rank-any text name ks
+    ]
 
 -- the names after one more: they stay where it is among them, and else it goes last
 pub names-insert : {K : Type 0} (text : K → List ℕ) (k : K) (ks : List K) →
     map text (cond (list_any (λ q. same_text (text k) (text q)) ks) ks (ks ++ k ∷ [])) ≡ cond (is_some (rank (text k) (map text ks))) (map text ks) (map text ks ++ text k ∷ [])
 names-insert text k ks =
     rw (rank-any text (text k) ks) (elim (list_any (λ q. same_text (text k) (text q)) ks) as (λ b. map text (cond b ks (ks ++ k ∷ [])) ≡ cond b (map text ks) (map text ks ++ text k ∷ [])) [
-      true ↦ refl
-    | false ↦ map-append text ks (k ∷ []) ])
+      | true ↦ refl
+      | false ↦ map-append text ks (k ∷ [])
+    ])

@@ -28,23 +28,25 @@ pub ranked-some : {K : Type 0} (text : K → List ℕ) (name : List ℕ) (es : L
 ranked-some text name [] i k d at is = cc
 ranked-some {K} text name (e ∷ es) i k d at is =
     (elim (same_text name (text e.0)) as (λ t. cond t (Some 0) (option_map suc (position (λ q. same_text name (text q)) (keys_of es))) ≡ Some i → cond t (Some (0, e.1)) (one_later (ranked name (seen text es))) ≡ Some (i, d)) [
-      true ↦ λ h. let z : i ≡ 0 = cc in
-        let is' : slice_get (e ∷ es) 0 ≡ Some (k, d) = ap (λ n. slice_get (e ∷ es) n) (sym z) ∙ is in
-        let e1 : e.1 ≡ d = cc in
-        cc
-    | false ↦ λ h. let l = later_some (position (λ q. same_text name (text q)) (keys_of es)) i h in
-        let is' : slice_get (e ∷ es) (suc l.0) ≡ Some (k, d) = ap (λ n. slice_get (e ∷ es) n) (sym l.1) ∙ is in
-        let is2 : slice_get es l.0 ≡ Some (k, d) = grind arith in
-        let m : one_later (ranked name (seen text es)) ≡ Some (suc l.0, d) = ap one_later (ranked-some text name es l.0 k d l.2 is2) in
-        m ∙ ap (λ (n : ℕ). let q : Option (ℕ × Macro) = Some (n, d) in q) (sym l.1) ])
+      | true ↦ λ h. let z : i ≡ 0 = cc in
+          let is' : slice_get (e ∷ es) 0 ≡ Some (k, d) = ap (λ n. slice_get (e ∷ es) n) (sym z) ∙ is in
+          let e1 : e.1 ≡ d = cc in
+          cc
+      | false ↦ λ h. let l = later_some (position (λ q. same_text name (text q)) (keys_of es)) i h in
+          let is' : slice_get (e ∷ es) (suc l.0) ≡ Some (k, d) = ap (λ n. slice_get (e ∷ es) n) (sym l.1) ∙ is in
+          let is2 : slice_get es l.0 ≡ Some (k, d) = grind arith in
+          let m : one_later (ranked name (seen text es)) ≡ Some (suc l.0, d) = ap one_later (ranked-some text name es l.0 k d l.2 is2) in
+          m ∙ ap (λ (n : ℕ). let q : Option (ℕ × Macro) = Some (n, d) in q) (sym l.1)
+    ])
     (sym (position_first (λ q. same_text name (text q)) e.0 (keys_of es)) ∙ at)
 
 pub ranked-none : {K : Type 0} (text : K → List ℕ) (name : List ℕ) (es : List (K × Macro)) → lookup_by (λ q. same_text name (text q)) es ≡ None → ranked name (seen text es) ≡ None
 ranked-none text name [] = λ h. refl
 ranked-none text name (e ∷ es) =
     elim (same_text name (text e.0)) as (λ t. cond t (Some e.1) (lookup_by (λ q. same_text name (text q)) es) ≡ None → cond t (Some (0, e.1)) (one_later (ranked name (seen text es))) ≡ None) [
-      true ↦ λ h. cc
-    | false ↦ λ h. ap one_later (ranked-none text name es h) ]
+      | true ↦ λ h. cc
+      | false ↦ λ h. ap one_later (ranked-none text name es h)
+    ]
 
 -- ---- removal
 
@@ -52,15 +54,17 @@ pub defines-lookup : {K : Type 0} (text : K → List ℕ) (name : List ℕ) (es 
 defines-lookup text name [] = refl
 defines-lookup text name (e ∷ es) =
     elim (same_text name (text e.0)) as (λ t. is_some (cond t (Some e.1) (lookup_by (λ q. same_text name (text q)) es)) ≡ (t || defines name (seen text es))) [
-      true ↦ refl
-    | false ↦ defines-lookup text name es ]
+      | true ↦ refl
+      | false ↦ defines-lookup text name es
+    ]
 
 pub without-removed : {K : Type 0} (text : K → List ℕ) (name : List ℕ) (es : List (K × Macro)) → seen text (remove_entry (λ q. same_text name (text q)) es) ≡ without name (seen text es)
 without-removed text name [] = refl
 without-removed text name (e ∷ es) =
     elim (same_text name (text e.0)) as (λ t. seen text (cond t es (e ∷ remove_entry (λ q. same_text name (text q)) es)) ≡ cond t (seen text es) ((text e.0, e.1) ∷ without name (seen text es))) [
-      true ↦ refl
-    | false ↦ ap (λ (z : List (List ℕ × Macro)). (text e.0, e.1) ∷ z) (without-removed text name es) ]
+      | true ↦ refl
+      | false ↦ ap (λ (z : List (List ℕ × Macro)). (text e.0, e.1) ∷ z) (without-removed text name es)
+    ]
 
 -- ---- insertion
 
@@ -68,8 +72,9 @@ pub insert-new : {K V : Type 0} (test : K → K → Bool) (es : List (K × V)) (
 insert-new test [] k v = λ h. refl
 insert-new test (e ∷ es) k v =
     elim (test k e.0) as (λ t. cond t (Some e.1) (lookup_by (test k) es) ≡ None → cond t ((e.0, v) ∷ es) (e ∷ insert_entry test es k v) ≡ e ∷ (es ++ (k, v) ∷ [])) [
-      true ↦ λ h. cc
-    | false ↦ λ h. ap (λ z. e ∷ z) (insert-new test es k v h) ]
+      | true ↦ λ h. cc
+      | false ↦ λ h. ap (λ z. e ∷ z) (insert-new test es k v h)
+    ]
 
 -- ---- names, compared
 
@@ -114,15 +119,17 @@ pub defines-none : (name : List ℕ) (es : List (List ℕ × Macro)) → found n
 defines-none name [] = λ h. refl
 defines-none name (e ∷ es) =
     elim (same_text name e.0) as (λ t. cond t (Some e.1) (found name es) ≡ None → (t || defines name es) ≡ false) [
-      true ↦ λ h. cc
-    | false ↦ λ h. defines-none name es h ]
+      | true ↦ λ h. cc
+      | false ↦ λ h. defines-none name es h
+    ]
 
 pub defines-some : (name : List ℕ) (es : List (List ℕ × Macro)) (m : Macro) → found name es ≡ Some m → defines name es ≡ true
 defines-some name [] m = λ h. cc
 defines-some name (e ∷ es) m =
     elim (same_text name e.0) as (λ t. cond t (Some e.1) (found name es) ≡ Some m → (t || defines name es) ≡ true) [
-      true ↦ λ h. refl
-    | false ↦ λ h. defines-some name es m h ]
+      | true ↦ λ h. refl
+      | false ↦ λ h. defines-some name es m h
+    ]
 
 pub added-macro : {K : Type 0} (text : K → List ℕ) (k : K) (m : Macro) (es : List (K × Macro)) → lookup_by (λ q. same_text (text k) (text q)) es ≡ None →
     seen text (insert_entry (λ a b. same_text (text a) (text b)) es k m) ≡ seen text es ++ (text k, m) ∷ []
@@ -175,5 +182,6 @@ pub file_name-lookup : (file : ℕ) (es : List (ℕ × List ℕ)) → or_empty (
 file_name-lookup file [] = refl
 file_name-lookup file (e ∷ es) =
     elim (nat_eq file e.0) as (λ t. or_empty (cond t (Some e.1) (lookup_by (nat_eq file) es)) ≡ cond t e.1 (file_name file es)) [
-      true ↦ refl
-    | false ↦ file_name-lookup file es ]
+      | true ↦ refl
+      | false ↦ file_name-lookup file es
+    ]

@@ -40,7 +40,7 @@ pub fn inside(
     pending: &mut Stack<Painted>,
 ) -> Result<Option<(Row<Painted>, Painted)>, NoMemory>
     ensures { IfOk result (λ o. MatchOption o (spec.placed place (spec.inside 0 pending.old) ≡ None)
-      (λ r. spec.placed place (spec.inside 0 pending.old) ≡ Some (record { tokens = r.0; close = r.1; rest = pending.new }))) }
+        (λ r. spec.placed place (spec.inside 0 pending.old) ≡ Some (record { tokens = r.0; close = r.1; rest = pending.new }))) }
 {
     let mut row = Row::new(alloc);
     let mut depth: usize = 0;
@@ -107,14 +107,22 @@ pub fn count_of(params: &Option<Names>) -> usize
 }
 
 /// As many arguments as parameters.
-fn exact(alloc: Global, names: usize, run: Row<Painted>) -> Result<Option<Row<Row<Painted>>>, NoMemory>
+fn exact(
+    alloc: Global,
+    names: usize,
+    run: Row<Painted>,
+) -> Result<Option<Row<Row<Painted>>>, NoMemory>
     ensures { IfOk result (λ o. o ≡ spec.exact_arguments names run) }
 {
     if names == 0 {
         return Ok(none_of(alloc, &run));
     }
     let rows = parts(alloc, run.len(), run)?;
-    Ok(if rows.len() == names { Some(rows) } else { None })
+    Ok(if rows.len() == names {
+        Some(rows)
+    } else {
+        None
+    })
 }
 
 /// No arguments, if there are no tokens.

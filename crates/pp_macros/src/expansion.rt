@@ -209,38 +209,3 @@ fn object_call<'a>(
         out,
     })
 }
-
-/// The call of a macro like a function, whose parenthesis is at the front.
-fn function_call<'a>(
-    alloc: Global,
-    p: &Painted,
-    rank: usize,
-    def: &'a MacroDef,
-    rest: Stack<Painted>,
-    out: Row<Painted>,
-) -> Result<Waiting<'a>, MacroError>
-    requires { arguments.opens rest ≡ true }
-    ensures called { IfOk result (λ w. Called p.now rank def.now rest out w) }
-    ensures refused { IfErr result (λ e. Refused p.now def.now rest e) }
-{
-    let mut pending = rest;
-    let _ = pending.pop();
-    let Some((run, close)) = inside(alloc, p.tok.place, &mut pending)? else {
-        return Err(fault(p.tok.place, 7));
-    };
-    let Some(runs) = split(alloc, def, run)? else {
-        return Err(fault(p.tok.place, 6));
-    };
-    let mut hides = p.hides.common(alloc, &close.hides)?;
-    hides.add(rank)?;
-    Ok(Waiting {
-        name: p.tok.copy(alloc)?,
-        hides,
-        def,
-        rest: pending,
-        uses: Stack::new(uses(alloc, def)?),
-        args: unreplaced(alloc, runs)?,
-        rank: 0,
-        out,
-    })
-}

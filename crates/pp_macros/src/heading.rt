@@ -80,9 +80,13 @@ fn item(tok: &PpTok) -> Met
 
 /// The parameters that begin at that rank of the line, after an opening parenthesis. `None` where
 /// they are malformed, or one stands twice.
-fn read_parameters(alloc: Global, line: &PpList, from: usize) -> Result<Option<Parameters>, NoMemory>
+fn read_parameters(
+    alloc: Global,
+    line: &PpList,
+    from: usize,
+) -> Result<Option<Parameters>, NoMemory>
     ensures { IfOk result (λ o. MatchOption o (after_names [] (definitions.parameters expected.First (drop from line.now)) ≡ None)
-      (λ p. after_names [] (definitions.parameters expected.First (drop from line.now)) ≡ Some (record { names = p.names; variadic = p.variadic; rest = drop p.next line.now }))) }
+        (λ p. after_names [] (definitions.parameters expected.First (drop from line.now)) ≡ Some (record { names = p.names; variadic = p.variadic; rest = drop p.next line.now }))) }
 {
     let mut names = Names::new(alloc);
     let mut expected = Expected::First;
@@ -115,7 +119,7 @@ fn read_parameters(alloc: Global, line: &PpList, from: usize) -> Result<Option<P
 /// line is malformed (ISO/IEC 9899:2024, 6.10.5).
 pub fn read_heading(alloc: Global, line: &PpList) -> Result<Option<(Heading, usize)>, NoMemory>
     ensures { IfOk result (λ o. MatchOption o (definitions.line_parts line.now ≡ None)
-      (λ r. definitions.line_parts line.now ≡ Some (record { heading = r.0; body = drop r.1 line.now }))) }
+        (λ r. definitions.line_parts line.now ≡ Some (record { heading = r.0; body = drop r.1 line.now }))) }
 {
     let Some(first) = line.get(0) else {
         return Ok(None);

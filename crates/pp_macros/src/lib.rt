@@ -1,7 +1,6 @@
 //! Macros: their definitions, the table of them, and their replacement by hide sets.
 #![tactic(auto)]
 
-
 mod arguments;
 mod constraints;
 mod definition;
@@ -9,16 +8,13 @@ mod errors;
 mod expansion;
 mod heading;
 mod hides;
-
 mod names;
 mod pasting;
 mod pieces;
-
 mod rows;
 mod spelling;
 mod substitution;
 mod table;
-
 
 pub use definition::{MacroDef, read_macro};
 pub use errors::MacroError;

@@ -91,7 +91,11 @@ pub fn is_placemarker(p: &Painted) -> bool
 }
 
 /// The tokens, or a placemarker where there are none.
-pub fn or_placemarker(alloc: Global, like: &PpTok, run: Row<Painted>) -> Result<Row<Painted>, NoMemory>
+pub fn or_placemarker(
+    alloc: Global,
+    like: &PpTok,
+    run: Row<Painted>,
+) -> Result<Row<Painted>, NoMemory>
     ensures { IfOk result (λ r. r ≡ spec.or_placemarker like.now run) }
 {
     if !run.is_empty() {

@@ -263,7 +263,12 @@ pub fn copied(alloc: Global, run: &[Painted]) -> Result<Row<Painted>, NoMemory>
 
 impl Group {
     /// What the text gives.
-    fn value(head: &PpTok, quoted: bool, alloc: Global, run: Row<Painted>) -> Result<Row<Painted>, NoMemory>
+    fn value(
+        head: &PpTok,
+        quoted: bool,
+        alloc: Global,
+        run: Row<Painted>,
+    ) -> Result<Row<Painted>, NoMemory>
         ensures { IfOk result (λ r. (g : spec.Group) → g.head ≡ head.now → g.quoted ≡ quoted → r ≡ spec.group_value g run) }
     {
         if quoted {
@@ -356,7 +361,12 @@ impl<'a> Source<'a> {
     }
 
     /// What a token adds that stands for tokens; nothing for the others.
-    fn operand(&self, alloc: Global, tok: &PpTok, role: Role) -> Result<Option<Row<Painted>>, NoMemory>
+    fn operand(
+        &self,
+        alloc: Global,
+        tok: &PpTok,
+        role: Role,
+    ) -> Result<Option<Row<Painted>>, NoMemory>
         ensures { IfOk result (λ o. o ≡ operand_of (source_of self.now) tok.now role) }
     {
         match role {
@@ -404,7 +414,12 @@ impl Filling {
     }
 
     /// Takes a token that stands for no tokens.
-    fn take_operator(self, alloc: Global, tok: &PpTok, role: Role) -> Result<Option<Filling>, NoMemory>
+    fn take_operator(
+        self,
+        alloc: Global,
+        tok: &PpTok,
+        role: Role,
+    ) -> Result<Option<Filling>, NoMemory>
         ensures { IfOk result (λ o. o ≡ operator_taken self tok.now role) }
     {
         match role {
@@ -425,7 +440,12 @@ impl Filling {
     }
 
     /// Takes a token of the replacement list.
-    fn take(self, alloc: Global, source: &Source, piece: &Piece) -> Result<Option<Filling>, NoMemory>
+    fn take(
+        self,
+        alloc: Global,
+        source: &Source,
+        piece: &Piece,
+    ) -> Result<Option<Filling>, NoMemory>
         ensures { IfOk result (λ o. o ≡ spec.filled_piece (source_of source.now) self piece.now) }
     {
         if source.skips(self.is_inside(), piece.role) {

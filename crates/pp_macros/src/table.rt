@@ -4,12 +4,8 @@ ghost use Rattle.std.specs.Option.{option_copied};
 ghost use Rattle.c_model.specs.Macros as macros;
 ghost use Rattle.pp_macros.specs.Answers.{Defines};
 
-
 use crate::definition::{MacroDef, fault, predefined};
 use crate::errors::MacroError;
-
-
-
 use c_model::macros::Role;
 use c_tokens::PpKind;
 use cake_base::{FileName, NoMemory};
@@ -43,7 +39,13 @@ impl MacroTable {
         table.add_token(alloc, b"__FILE__", PpKind::Name, b"__FILE__", Role::File)?;
         table.add_token(alloc, b"__LINE__", PpKind::Name, b"__LINE__", Role::Line)?;
         table.add_token(alloc, b"__STDC__", PpKind::Number, b"1", Role::Plain)?;
-        table.add_token(alloc, b"__STDC_VERSION__", PpKind::Number, b"202311L", Role::Plain)?;
+        table.add_token(
+            alloc,
+            b"__STDC_VERSION__",
+            PpKind::Number,
+            b"202311L",
+            Role::Plain,
+        )?;
         table.add_token(alloc, b"__STDC_HOSTED__", PpKind::Number, b"1", Role::Plain)?;
         table.add_token(alloc, b"__CAKE__", PpKind::Number, b"1", Role::Plain)?;
         Ok(table)

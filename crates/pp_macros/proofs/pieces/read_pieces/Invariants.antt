@@ -6,4 +6,5 @@ use Rattle.pp_macros.proofs.pieces.read_pieces.Given as goal
 abbrev pub invariant-loop-at : goal.invariant-loop-at
 invariant-loop-at l = record {
   so_far : l.pieces ++ pieces_from (signature l.heading) l.last l.depth (drop l.at l.line) ≡ pieces (signature l.heading) (drop l.from l.line);
-  shallow : l.depth ≤ l.at }
+  shallow : l.depth ≤ l.at;
+}

@@ -7,4 +7,4 @@ pub returns-clause-new : goal.returns-clause-new
 returns-clause-new c =
     let e : c.in_ok-text.text.items ≡ c.args.name.now = c.in_ok-text.ensures.items in
     c.in_ok-new.ensures.added ∙ ap not (sym (rank-any (λ q. q.items) c.in_ok-text.text.items c.self.inside.texts.keys))
-      ∙ ap (λ (z : List ℕ). not (is_some (rank z (map (λ q. q.items) c.self.inside.texts.keys)))) e ∙ ap (λ z. not (is_some (rank c.args.name.now z))) c.self.view_is
+    ∙ ap (λ (z : List ℕ). not (is_some (rank z (map (λ q. q.items) c.self.inside.texts.keys)))) e ∙ ap (λ z. not (is_some (rank c.args.name.now z))) c.self.view_is
