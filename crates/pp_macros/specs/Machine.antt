@@ -1,13 +1,14 @@
 -- The state of a replacement: a list that is worked through, and the calls that wait for it.
-use Rattle.std.specs.Prelude.{◌≡◌, ℕ, ◌+◌, ◌-◌, ◌*◌, ◌<◌, ◌≤◌, Bool, true, false, max, if◌then◌else◌, List, [], ◌∷◌, ◌++◌, length, map, Option, Some, None, Result, Ok, Err}
+use Rattle.std.specs.Prelude.{◌≡◌, ℕ, ◌+◌, ◌-◌, ◌*◌, ◌<◌, ◌≤◌, Bool, true, false, max, if◌then◌else◌, List, [], ◌∷◌, ◌++◌, length, map, drop, ◌⊎◌, Option, Some, None, Result, Ok, Err}
 use Rattle.cake_base.specs.declared.places.Place.{Place}
 use Rattle.c_model.specs.PpTokens.{PpToken}
-use Rattle.c_model.specs.Macros.{Macros}
-use Rattle.c_model.specs.MacroArguments.{Painted, Run}
+use Rattle.c_model.specs.HideSets.{holds}
+use Rattle.c_model.specs.Macros.{Macro, Macros, ranked}
+use Rattle.c_model.specs.MacroArguments.{Painted, Run, Inside, inside, placed, arguments, opens}
 use Rattle.c_model.specs.Pasting.{fresh}
-use Rattle.c_model.specs.Substitution.{Argument, Use, with_replaced, wanted, waits, substituted}
+use Rattle.c_model.specs.Substitution.{Argument, Use, unreplaced, uses, with_replaced, wanted, waits, substituted}
 use Rattle.c_model.specs.Expansion.{Answer, Stop, broken, passed, MADE, Call, Expands, Fills}
-use Rattle.c_model.specs.ExpansionRules.{with_front}
+use Rattle.c_model.specs.ExpansionRules.{with_front, function_call}
 use Rattle.c_model.specs.ExpansionFunction.{expand}
 use Rattle.pp_macros.specs.declared.errors.MacroError.{MacroError}
 use Rattle.pp_macros.specs.declared.errors.MacroError.TheVariants as macro_error
@@ -88,3 +89,31 @@ Expanded table toks made (Ok list) more = (run : Run) × (expand table (map fres
 Expanded table toks made (Err (macro_error.Fault f)) more = expand table (map fresh toks) made ≡ Err (broken f, more)
 Expanded table toks made (Err (macro_error.Limit l)) more = expand table (map fresh toks) made ≡ Err (passed l, more)
 Expanded table toks made (Err macro_error.NoMemory) more = Unit {0}
+
+-- a macro that replaces a token: one without parameters, or one whose parenthesis follows
+pub record Shown (table : Macros) (p : Painted) (ps : Run) (n : ℕ) (m : Macro) : Type 0 where
+  pub known : ranked p.tok.spelling table.entries ≡ Some (n, m)
+  pub free : holds n p.hides ≡ false
+  pub follows : (names : List (List ℕ)) → m.params ≡ Some names → opens ps ≡ true
+
+-- a call whose arguments are there
+pub record Called (p : Painted) (n : ℕ) (m : Macro) (ps out : Run) (w : Waiting) : Type 0 where
+  pub i : Inside
+  pub runs : List Run
+  pub found : placed p.tok.place (inside 0 (drop 1 ps)) ≡ Some i
+  pub counted : arguments m i.tokens ≡ Some runs
+  pub is : w ≡ record { call = function_call p n m i; uses = uses m; args = map unreplaced runs; rank = 0; out = out }
+
+-- a call that isn't ended, or whose arguments are too few or too many
+abbrev pub Refused : Painted → Macro → Run → MacroError → Type 0
+Refused p m ps (macro_error.Fault f) =
+    ((placed p.tok.place (inside 0 (drop 1 ps)) ≡ None) × (f ≡ rule_at p.tok.place 7))
+    ⊎ ((i : Inside) × (placed p.tok.place (inside 0 (drop 1 ps)) ≡ Some i) × (arguments m i.tokens ≡ None) × (f ≡ rule_at p.tok.place 6))
+Refused p m ps (macro_error.Limit l) = ⊥
+Refused p m ps macro_error.NoMemory = Unit {0}
+
+-- the arguments of a call, the parenthesis that closes it, and what follows
+pub record CallParts (p : Painted) (m : Macro) (ps : Run) (runs : List Run) (close : Painted) (rest : Run) : Type 0 where
+  pub tokens : Run
+  pub found : placed p.tok.place (inside 0 (drop 1 ps)) ≡ Some (record { tokens = tokens; close = close; rest = rest })
+  pub counted : arguments m tokens ≡ Some runs
