@@ -52,12 +52,9 @@ pub fn untested_table_is_grammar()
 pub fn primary_test_loses_nothing()
     ensures { (ts : List Terminal) (xs : List Tree) (new : Scopes) (rest : List Terminal) → Derives open_primary (rule r.Unit) start ts xs new rest → Derives parsed (rule r.Unit) start ts xs new rest }
 {}
-<<<<<<< HEAD
-=======
 
 /// Nor does it lose a beginning.
 #[tactic(auto, using(crate::proofs::RegainPrimary::regain_begun_unit))]
 pub fn primary_test_loses_no_front()
     ensures { (ts rest : List Terminal) → Begins open_primary (rule r.Unit) start ts rest → Begins parsed (rule r.Unit) start ts rest }
 {}
->>>>>>> 9ac716d4197f66dc8c4e62a132a0457d48cfcd82

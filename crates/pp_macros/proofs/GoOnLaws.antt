@@ -123,8 +123,6 @@ Stopped-parts table f fs made more name hides def after uses args args' args'' r
     let s : Stops (Fills table g.call [] args made) e more = subst (λ (z : List Argument). Stops (Fills table g.call [] z made) e more) same' fin in
     subst (λ (z : Waiting). Stops (GoesOn table z fs made) e more) view
     (Stops-map (Fills table g.call [] args made) (GoesOn table g fs made) e more (λ x h. goes_stopped table g fs made x n h) s)
-<<<<<<< HEAD
-=======
 
 -- ---- a call begins
 
@@ -192,4 +190,3 @@ function-begins table p ps out n m names w s kind c =
     (λ fs made a g. begins_function table p ps out n m names fs made w a s kind c g,
      let e = ap waiting_weight c.is in let l = call-length p.tok.place ps c.i (s.follows names kind) c.found in let k = arguments-weight m c.i.tokens c.runs c.counted in let q = unreplaced-weight c.runs in
      omega (arith, e, l, k, q))
->>>>>>> b5ea05b8e0172c1663d8f4dd03bc2ef73512ebf0
