@@ -1,5 +1,5 @@
 -- A literal ends at the first quote that no backslash stands before.
-use Rattle.std.proofs.Common.{◌≡◌, ℕ, zero, suc, ◌+◌, ◌≤◌, Bool, true, false, ◌==◌, if◌then◌else◌, List, [], ◌∷◌, ◌++◌, length, take, drop, Option, Some, None, refl, sym, ap, ◌∙◌, subst, arith, eq-eqb}
+use Rattle.std.proofs.Common.{◌≡◌, ℕ, suc, Bool, true, false, ◌==◌, if◌then◌else◌, List, [], ◌∷◌, ◌++◌, length, take, drop, Option, Some, None, refl, sym, ap, ◌∙◌, subst, arith, eq-eqb}
 use Rattle.std.proofs.lemmas.List.{take-append-drop, length-take-le}
 use Rattle.c_model.specs.PpSteps.{closing, longer}
 use Rattle.c_model.specs.Literals.{Ended, quote_itself, character, escaped, EndsLiteral}
@@ -49,8 +49,8 @@ at_byte quote b n text false false true l s k plain slashed e =
     let found = one_longer (closing quote true text) n e in
     let r = slashed found.0 found.1 in
     subst (λ j. Ended quote (take j (b ∷ text))) (sym (found.2 ∙ ap suc r.length_is))
-      (subst (λ z. Ended quote (take (suc (suc r.left)) (b ∷ z))) (sym r.is)
-        (subst (λ c. Ended quote (c ∷ r.byte ∷ take r.left r.rest)) (sym (equal_bytes b 92 k)) (escaped r.byte (take r.left r.rest) r.in_line r.ended)))
+    (subst (λ z. Ended quote (take (suc (suc r.left)) (b ∷ z))) (sym r.is)
+    (subst (λ c. Ended quote (c ∷ r.byte ∷ take r.left r.rest)) (sym (equal_bytes b 92 k)) (escaped r.byte (take r.left r.rest) r.in_line r.ended)))
 
 abbrev Both : ℕ → List ℕ → Type 0
 Both quote text = Plain quote text × Slashed quote text
@@ -58,9 +58,10 @@ Both quote text = Plain quote text × Slashed quote text
 found : (quote : ℕ) (text : List ℕ) → Both quote text
 found quote [] = (λ m e. absurd (no_length m e), λ m e. absurd (no_length m e))
 found quote (b ∷ text) =
-    let rest = found quote text in
-    ( λ m e. at_byte quote b m text (b == 10) (b == quote) (b == 92) refl refl refl rest.0 rest.1 e,
-      λ m e. behind_slash quote b m text (b == 10) refl rest.0 e )
+    let rest = found quote text in (
+      λ m e. at_byte quote b m text (b == 10) (b == quote) (b == 92) refl refl refl rest.0 rest.1 e,
+      λ m e. behind_slash quote b m text (b == 10) refl rest.0 e,
+    )
 
 ends : (quote : ℕ) (text more : List ℕ) → (quote == 10) ≡ false → (92 == quote) ≡ false → Ended quote text → closing quote false (text ++ more) ≡ Some (length text)
 ends quote _ more line slash quote_itself = let same : (quote == quote) ≡ true = eq-eqb quote quote refl in rw (line, same) refl
@@ -71,5 +72,5 @@ pub ends_literal : (quote : ℕ) (text : List ℕ) (n : ℕ) → (quote == 10) �
 ends_literal quote text n line slash = record {
   found = λ e. (found quote text).0 n e;
   ends = λ within ended.
-    ap (closing quote false) (sym (take-append-drop n text)) ∙ ends quote (take n text) (drop n text) line slash ended ∙ ap Some (length-take-le n text within);
+      ap (closing quote false) (sym (take-append-drop n text)) ∙ ends quote (take n text) (drop n text) line slash ended ∙ ap Some (length-take-le n text within);
 }

@@ -15,5 +15,4 @@ pub fn longest_number()
 pub fn literals_end()
     ensures strings { (text : List ℕ) (n : ℕ) → EndsLiteral 34 text n }
     ensures characters { (text : List ℕ) (n : ℕ) → EndsLiteral 39 text n }
-{
-}
+{}
