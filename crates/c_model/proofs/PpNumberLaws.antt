@@ -1,9 +1,8 @@
 -- What stands at the front of a text is the longest preprocessing number that it begins with.
-use Rattle.std.proofs.Common.{◌≡◌, ℕ, zero, suc, ◌+◌, ◌<◌, ◌≤◌, Bool, true, false, ◌&&◌, ◌||◌, ◌==◌, if◌then◌else◌, List, [], ◌∷◌, ◌++◌, length, take, drop, slice_index, ◌⊎◌, inl, inr, refl, sym, ap, ◌∙◌, subst, arith, append_assoc, length-append}
+use Rattle.std.proofs.Common.{◌≡◌, ℕ, zero, suc, ◌+◌, ◌≤◌, Bool, true, false, ◌&&◌, ◌||◌, ◌==◌, if◌then◌else◌, List, [], ◌∷◌, ◌++◌, length, take, drop, slice_index, ◌⊎◌, inl, inr, refl, sym, ap, ◌∙◌, subst, arith, append_assoc, length-append}
 use Rattle.std.proofs.lemmas.List.{take-append-drop, length-take-le, append-nil}
 use Rattle.std.specs.Char.{is_ascii_digit, is_ascii_alphanumeric}
 use Rattle.c_model.specs.declared.steps.LinePart.{LinePart}
-use Rattle.c_model.specs.declared.steps.Step.{Step}
 use Rattle.c_model.specs.declared.steps.Step.TheVariants.{Token}
 use Rattle.c_model.specs.declared.tokens.PpKind.TheVariants.{Number}
 use Rattle.c_model.specs.PpSteps.{number_rest, is_word_byte, is_exponent, step_at}

@@ -1,5 +1,5 @@
 -- What follows the opening quote of a string literal or a character constant (ISO/IEC 9899:2024, 6.4.4.5, 6.4.5).
-use Rattle.std.specs.Prelude.{◌≡◌, ℕ, ◌≤◌, Bool, true, false, ◌==◌, List, [], ◌∷◌, length, take, Some}
+use Rattle.std.specs.Prelude.{◌≡◌, ℕ, ◌≤◌, false, ◌==◌, List, [], ◌∷◌, length, take, Some}
 use Rattle.c_model.specs.PpSteps.{closing}
 
 -- characters other than the quote, a backslash and a line feed, a backslash with any byte but a line feed, and at the end the quote
