@@ -1,20 +1,16 @@
 -- A call that goes on, taken apart and put together again.
-use Rattle.std.proofs.Common.{◌≡◌, ℕ, zero, suc, ◌+◌, ◌-◌, ◌*◌, ◌<◌, ◌≤◌, Bool, true, false, max, List, [], ◌∷◌, ◌++◌, length, map, drop, Option, Some, None, Result, Ok, Err, refl, ap, subst, sym, ◌∙◌, arith, length-append, ◌⊎◌, inl, inr}
-use Rattle.cake_base.specs.declared.places.Place.{Place}
+use Rattle.std.proofs.Common.{◌≡◌, ℕ, zero, suc, ◌+◌, ◌-◌, ◌*◌, ◌<◌, ◌≤◌, Bool, true, false, max, List, [], ◌∷◌, ◌++◌, length, map, drop, Option, Some, None, Result, Ok, Err, refl, ap, subst, sym, ◌∙◌, arith, length-append}
 use Rattle.c_model.specs.PpTokens.{PpToken}
 use Rattle.c_model.specs.Macros.{Macro, Macros}
 use Rattle.std.specs.Option.{is_some, MatchOption}
 use Rattle.c_model.specs.HideSets.{common, with_rank}
 use Rattle.c_model.specs.MacroArguments.{Painted, Run, Inside, inside, placed, arguments}
 use Rattle.c_model.specs.Substitution.{Argument, Use, unreplaced, uses, written, with_replaced, variable_rank, wanted, substituted}
-use Rattle.cake_base.specs.declared.rules.Fault.{Fault}
-use Rattle.c_model.specs.Expansion.{Answer, Stop, broken, MADE, Call, Fills}
-use Rattle.c_model.specs.ExpansionRules.{object_call, Expands-object, Expands-call, Expands-open, Expands-count}
-use Rattle.c_model.specs.ExpansionTotal.{call-length, arguments-weight}
+use Rattle.c_model.specs.Expansion.{Answer, Stop, MADE, Call, Fills}
 use Rattle.pp_macros.specs.declared.errors.MacroError.{MacroError}
 use Rattle.pp_macros.specs.declared.errors.MacroError.TheVariants as macro_error
-use Rattle.pp_macros.specs.Machine.{Waiting, Called, CallParts, Shown, Refused, from_wanted, Gives, GoesOn, Finishes, Stops, arguments_weight, waiting_weight, all_weight, left}
-use Rattle.pp_macros.proofs.MachineLaws.{Ends-stopped, unreplaced-weight, asking, asks, goes_body, goes_stopped, wanted-first, wanted-unreplaced, lighter_by}
+use Rattle.pp_macros.specs.Machine.{Waiting, Called, from_wanted, Gives, GoesOn, Finishes, Stops, arguments_weight, waiting_weight, all_weight, left}
+use Rattle.pp_macros.proofs.MachineLaws.{asking, asks, goes_body, goes_stopped, wanted-first, wanted-unreplaced, lighter_by}
 
 pub asking-lighter : (f : Waiting) (fs : List Waiting) (u : Use) (us : List Use) → from_wanted f.args (variable_rank f.call.def) f.uses ≡ u ∷ us →
     length (written f.args u.rank) + all_weight (asking f u us ∷ fs) < waiting_weight f + all_weight fs
@@ -134,59 +130,21 @@ pub drop-popped : (o : Option Painted) (old new : Run) → MatchOption o ((old �
 drop-popped None old new h = h.1 ∙ ap (drop 1) (sym h.0)
 drop-popped (Some p) old new h = ap (drop 1) (sym h)
 
-pub CallParts-are : (p : Painted) (m : Macro) (ps front rest : Run) (popped : Option Painted) (run : Run) (close : Painted) (o : Option (List Run)) (runs : List Run) (found : Option (Run × Painted)) (place : Place) →
-    MatchOption popped ((ps ≡ []) × (front ≡ [])) (λ q. ps ≡ q ∷ front) → found ≡ Some (run, close) → place ≡ p.tok.place →
-    MatchOption found (placed place (inside 0 front) ≡ None) (λ r. placed place (inside 0 front) ≡ Some (record { tokens = r.0; close = r.1; rest = rest })) →
-    o ≡ arguments m run → o ≡ Some runs → CallParts p m ps runs close rest
-CallParts-are p m ps front rest popped run close o runs found place pop is here at split counts =
+pub Called-parts : (p : Painted) (n : ℕ) (m : Macro) (ps out : Run) (popped : Option Painted) (front rest : Run) (run : Run) (close : Painted) (o : Option (List Run)) (runs : List Run) (name : PpToken) (both all : List ℕ) (us us' : List Use) (args : List Argument) →
+    MatchOption popped ((ps ≡ []) × (front ≡ [])) (λ q. ps ≡ q ∷ front) →
+    placed p.tok.place (inside 0 front) ≡ Some (record { tokens = run; close = close; rest = rest }) → o ≡ arguments m run → o ≡ Some runs →
+    name ≡ p.tok → both ≡ common p.hides close.hides → all ≡ with_rank both n → us ≡ us' → us' ≡ uses m → args ≡ map unreplaced runs →
+    Called p n m ps out (waiting name all m rest us args 0 out)
+Called-parts p n m ps out popped front rest run close o runs name both all us us' args pop at split is named meets adds one two made =
     let d = drop-popped popped ps front pop in
-    let a = subst (λ (z : Option (Run × Painted)). MatchOption z (placed place (inside 0 front) ≡ None) (λ r. placed place (inside 0 front) ≡ Some (record { tokens = r.0; close = r.1; rest = rest }))) is at in
-    record { tokens = run; found = ap (λ z. placed z (inside 0 (drop 1 ps))) (sym here) ∙ ap (λ (z : Run). placed place (inside 0 z)) (sym d) ∙ a; counted = sym split ∙ counts }
-
-pub Called-is : (p : Painted) (n : ℕ) (m : Macro) (ps out : Run) (runs : List Run) (close : Painted) (rest : Run) (name : PpToken) (hides : List ℕ) (us : List Use) (args : List Argument) (w : Waiting) → CallParts p m ps runs close rest →
-    w ≡ waiting name hides m rest us args 0 out → name ≡ p.tok → hides ≡ with_rank (common p.hides close.hides) n → us ≡ uses m → args ≡ map unreplaced runs → Called p n m ps out w
-Called-is p n m ps out runs close rest name hides us args w c is named hid asked made =
-    record { i = record { tokens = c.tokens; close = close; rest = rest }; runs = runs; found = c.found; counted = c.counted;
-      is = is ∙ ap (λ (z : PpToken). waiting z hides m rest us args 0 out) named
-        ∙ ap (λ (z : List ℕ). waiting p.tok z m rest us args 0 out) hid
-        ∙ ap (λ (z : List Use). waiting p.tok (with_rank (common p.hides close.hides) n) m rest z args 0 out) asked
-        ∙ ap (λ (z : List Argument). waiting p.tok (with_rank (common p.hides close.hides) n) m rest (uses m) z 0 out) made }
-
--- ---- a token that is replaced
-
-pub begins_object : (table : Macros) (p : Painted) (ps out : Run) (n : ℕ) (m : Macro) (fs : List Waiting) (made : ℕ) (w : Waiting) (a : Answer) → Shown table p ps n m → m.params ≡ None →
-    w ≡ record { call = object_call p n m ps; uses = []; args = []; rank = 0; out = out } → GoesOn table w fs made a → Gives table fs (p ∷ ps) out made a
-begins_object table p ps out n m fs made w a s kind is g =
-    let h = subst (λ (z : Waiting). GoesOn table z fs made a) is g in
-    record { inner = h.inner; expands = Expands-object table p ps made n m h.inner s.known s.free kind h.fills; ends = h.ends }
-
-pub begins_function : (table : Macros) (p : Painted) (ps out : Run) (n : ℕ) (m : Macro) (names : List (List ℕ)) (fs : List Waiting) (made : ℕ) (w : Waiting) (a : Answer) → Shown table p ps n m → m.params ≡ Some names →
-    Called p n m ps out w → GoesOn table w fs made a → Gives table fs (p ∷ ps) out made a
-begins_function table p ps out n m names fs made w a s kind c g =
-    let h = subst (λ (z : Waiting). GoesOn table z fs made a) c.is g in
-    record { inner = h.inner; expands = Expands-call table p ps made n m names c.i c.runs h.inner s.known s.free kind (s.follows names kind) c.found c.counted h.fills; ends = h.ends }
-
-pub refused : (table : Macros) (p : Painted) (ps out : Run) (n : ℕ) (m : Macro) (names : List (List ℕ)) (fs : List Waiting) (made : ℕ) (e : MacroError) → Shown table p ps n m → m.params ≡ Some names →
-    Refused p m ps e → Stops (Gives table fs (p ∷ ps) out made) e made
-refused table p ps out n m names fs made (macro_error.Fault f) s kind (inl h) =
-    let x = Expands-open table p ps made n m names s.known s.free kind (s.follows names kind) h.0 in
-    subst (λ (z : Fault). Gives table fs (p ∷ ps) out made (Err (broken z, made))) (sym h.1) (record { inner = _; expands = x; ends = Ends-stopped table fs _ })
-refused table p ps out n m names fs made (macro_error.Fault f) s kind (inr h) =
-    let x = Expands-count table p ps made n m names h.0 s.known s.free kind (s.follows names kind) h.1 h.2 in
-    subst (λ (z : Fault). Gives table fs (p ∷ ps) out made (Err (broken z, made))) (sym h.3) (record { inner = _; expands = x; ends = Ends-stopped table fs _ })
-refused table p ps out n m names fs made (macro_error.Limit l) s kind h = absurd h
-refused table p ps out n m names fs made macro_error.NoMemory s kind h = tt
-
--- the call that a token begins
-abbrev pub Begins : Macros → Painted → Run → Run → Waiting → Type 0
-Begins table p ps out w = ((fs : List Waiting) (made : ℕ) (a : Answer) → GoesOn table w fs made a → Gives table fs (p ∷ ps) out made a) × (waiting_weight w ≤ length ps + 1)
-
-pub object-begins : (table : Macros) (p : Painted) (ps out : Run) (n : ℕ) (m : Macro) (w : Waiting) → Shown table p ps n m → m.params ≡ None →
-    w ≡ record { call = object_call p n m ps; uses = []; args = []; rank = 0; out = out } → Begins table p ps out w
-object-begins table p ps out n m w s kind is = (λ fs made a g. begins_object table p ps out n m fs made w a s kind is g, let e = ap waiting_weight is in omega (arith, e))
-
-pub function-begins : (table : Macros) (p : Painted) (ps out : Run) (n : ℕ) (m : Macro) (names : List (List ℕ)) (w : Waiting) → Shown table p ps n m → m.params ≡ Some names → Called p n m ps out w → Begins table p ps out w
-function-begins table p ps out n m names w s kind c =
-    (λ fs made a g. begins_function table p ps out n m names fs made w a s kind c g,
-     let e = ap waiting_weight c.is in let l = call-length p.tok.place ps c.i (s.follows names kind) c.found in let k = arguments-weight m c.i.tokens c.runs c.counted in let q = unreplaced-weight c.runs in
-     omega (arith, e, l, k, q))
+    let i : Inside = record { tokens = run; close = close; rest = rest } in
+    record {
+      i = i;
+      runs = runs;
+      found = ap (λ (z : Run). placed p.tok.place (inside 0 z)) (sym d) ∙ at;
+      counted = sym split ∙ is;
+      is = ap (λ (z : PpToken). waiting z all m rest us args 0 out) named
+          ∙ ap (λ (z : List ℕ). waiting p.tok z m rest us args 0 out) (adds ∙ ap (λ z. with_rank z n) meets)
+          ∙ ap (λ (z : List Use). waiting p.tok (with_rank (common p.hides close.hides) n) m rest z args 0 out) (one ∙ two)
+          ∙ ap (λ (z : List Argument). waiting p.tok (with_rank (common p.hides close.hides) n) m rest (uses m) z 0 out) made;
+    }

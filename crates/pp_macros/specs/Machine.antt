@@ -111,9 +111,3 @@ Refused p m ps (macro_error.Fault f) =
     ⊎ ((i : Inside) × (placed p.tok.place (inside 0 (drop 1 ps)) ≡ Some i) × (arguments m i.tokens ≡ None) × (f ≡ rule_at p.tok.place 6))
 Refused p m ps (macro_error.Limit l) = ⊥
 Refused p m ps macro_error.NoMemory = Unit {0}
-
--- the arguments of a call, the parenthesis that closes it, and what follows
-pub record CallParts (p : Painted) (m : Macro) (ps : Run) (runs : List Run) (close : Painted) (rest : Run) : Type 0 where
-  pub tokens : Run
-  pub found : placed p.tok.place (inside 0 (drop 1 ps)) ≡ Some (record { tokens = tokens; close = close; rest = rest })
-  pub counted : arguments m tokens ≡ Some runs

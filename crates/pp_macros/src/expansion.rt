@@ -7,7 +7,7 @@ ghost use Rattle.c_model.specs.MacroArguments as arguments;
 ghost use Rattle.c_model.specs.Pasting as pasting;
 ghost use Rattle.c_model.specs.Substitution as substitution;
 ghost use Rattle.c_model.specs.MacroDefinitions as definitions;
-ghost use Rattle.pp_macros.specs.Machine.{Charges, Finishes, Stops, Gives, GoesOn, Expanded, Shown, Called, CallParts, Refused, from_wanted, waiting_weight, all_weight, left};
+ghost use Rattle.pp_macros.specs.Machine.{Charges, Finishes, Stops, Gives, GoesOn, Expanded, Shown, Called, Refused, from_wanted, waiting_weight, all_weight, left};
 ghost use Rattle.c_model.specs.ExpansionRules.{Stays};
 ghost use Rattle.c_model.specs.ExpansionRules as rules;
 
@@ -208,84 +208,4 @@ fn object_call<'a>(
         rank: 0,
         out,
     })
-}
-
-/// The arguments of a call whose parenthesis is at the front, the parenthesis that closes it, and what
-/// follows.
-fn parts_of_call(
-    alloc: Global,
-    p: &Painted,
-    def: &MacroDef,
-    rest: Stack<Painted>,
-) -> Result<(Row<Row<Painted>>, Painted, Stack<Painted>), MacroError>
-    ensures parts { IfOk result (λ r. CallParts p.now def.now rest r.0 r.1 r.2) }
-    ensures refused { IfErr result (λ e. Refused p.now def.now rest e) }
-{
-    let mut pending = rest;
-    let _ = pending.pop();
-    let Some((run, close)) = inside(alloc, p.tok.place, &mut pending)? else {
-        return Err(fault(p.tok.place, 7));
-    };
-    let Some(runs) = split(alloc, def, run)? else {
-        return Err(fault(p.tok.place, 6));
-    };
-    Ok((runs, close, pending))
-}
-
-/// The hide set of what a call gives.
-fn hides_of_call(
-    alloc: Global,
-    p: &Painted,
-    close: &Painted,
-    rank: usize,
-) -> Result<Hides, NoMemory>
-    ensures { IfOk result (λ h. h ≡ hide_sets.with_rank (hide_sets.common p.now.hides close.now.hides) rank) }
-{
-    let mut hides = p.hides.common(alloc, &close.hides)?;
-    hides.add(rank)?;
-    Ok(hides)
-}
-
-/// The call of a macro like a function, whose parenthesis is at the front.
-fn function_call<'a>(
-    alloc: Global,
-    p: &Painted,
-    rank: usize,
-    def: &'a MacroDef,
-    rest: Stack<Painted>,
-    out: Row<Painted>,
-) -> Result<Waiting<'a>, MacroError>
-    ensures called { IfOk result (λ w. Called p.now rank def.now rest out w) }
-    ensures refused { IfErr result (λ e. Refused p.now def.now rest e) }
-{
-    let (runs, close, pending) = parts_of_call(alloc, p, def, rest)?;
-    let hides = hides_of_call(alloc, p, &close, rank)?;
-    let name = p.tok.copy(alloc)?;
-    let asked = uses(alloc, def)?;
-    let args = unreplaced(alloc, runs)?;
-    Ok(new_call(name, hides, def, pending, asked, args, out))
-}
-
-/// A call of which no argument is replaced yet.
-fn new_call<'a>(
-    name: PpTok,
-    hides: Hides,
-    def: &'a MacroDef,
-    rest: Stack<Painted>,
-    asked: Row<Use>,
-    args: Vec<Argument>,
-    out: Row<Painted>,
-) -> Waiting<'a>
-    ensures { result ≡ record { call = record { name = name; hides = hides; def = def.now; rest = rest }; uses = asked; args = args.items; rank = 0; out = out } }
-{
-    Waiting {
-        name,
-        hides,
-        def,
-        rest,
-        uses: Stack::new(asked),
-        args,
-        rank: 0,
-        out,
-    }
 }
