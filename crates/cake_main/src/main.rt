@@ -3,6 +3,8 @@
 
 mod files;
 mod sinks;
+#[cfg(test)]
+mod tests;
 
 use crate::files::RealFiles;
 use crate::sinks::RealSink;
