@@ -1,5 +1,9 @@
 pub mod Spelled
 pub mod Respelled
+pub mod ReadingMachine
+pub mod UniqueWords
+pub mod TypesMachine
+pub mod UniqueTypes
 pub mod Rows
 pub mod DefersAlike
 pub mod Related
