@@ -3,7 +3,10 @@ pub mod Respelled
 pub mod ReadingMachine
 pub mod UniqueWords
 pub mod TypesMachine
+pub mod ReadDeclarators
 pub mod UniqueTypes
+pub mod ExpressionsMachine
+pub mod UniqueExpressions
 pub mod Rows
 pub mod DefersAlike
 pub mod Related
