@@ -59,13 +59,13 @@ abbrev pub second_parenthesis : List Frame → (text : List ℕ) → Option (Lis
 second_parenthesis frames text None = Some (Want (InFirst ∷ frames) text)
 second_parenthesis frames text (Some rest) = if at_type rest then Some (InType frames (types.Before [] rest)) else Some (Want (InFirst ∷ frames) text)
 
+abbrev pub prefix_found : List Frame → Prefix → Option (List ℕ) → Option State → Option State
+prefix_found frames op (Some rest) other = Some (Want (InUnary op ∷ frames) rest)
+prefix_found frames op None other = other
+
 abbrev pub prefix_at : List Frame → List Prefix → List ℕ → Option State
 prefix_at frames [] text = second_parenthesis frames text (strip (codes "(") text)
-prefix_at frames (op ∷ ops) text = found (strip (prefix_text op) text)
-  where
-    found : Option (List ℕ) → Option State
-    found (Some rest) = Some (Want (InUnary op ∷ frames) rest)
-    found None = prefix_at frames ops text
+prefix_at frames (op ∷ ops) text = prefix_found frames op (strip (prefix_text op) text) (prefix_at frames ops text)
 
 -- behind `(`
 abbrev pub opened : List Frame → List ℕ → Option State

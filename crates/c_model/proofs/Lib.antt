@@ -6,6 +6,7 @@ pub mod TypesMachine
 pub mod ReadDeclarators
 pub mod UniqueTypes
 pub mod ExpressionsMachine
+pub mod ExpressionFronts
 pub mod UniqueExpressions
 pub mod Rows
 pub mod DefersAlike

@@ -1,7 +1,7 @@
 use Rattle.c_model.proofs.ReadingMachine.{one_end}
 use Rattle.c_model.proofs.UniqueWords.{behind_number}
 use Rattle.c_model.proofs.UniqueTypes.{one_type, one_declaration}
-use Rattle.c_model.proofs.UniqueExpressions.{Reads}
+use Rattle.c_model.proofs.UniqueExpressions.{one_expr}
 use Rattle.c_model.proofs.laws.one_reading.Goals as goal
 
 pub returns : goal.returns
