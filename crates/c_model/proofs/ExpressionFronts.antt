@@ -56,11 +56,17 @@ no_strip c cs (b ∷ bs) p h = ap (λ t. if t then strip cs bs else None) (no_ma
 -- an expression begins with no `)`, and in parentheses with no prefix and no type
 pub record First (t : List ℕ) : Type 0 where
   pub closes_not : strip (codes ")") t ≡ None
+  pub no_semicolon : strip (codes ";") t ≡ None
+  pub no_brace : strip (codes "{") t ≡ None
+  pub no_quote : strip (codes "\"") t ≡ None
   pub opens : (frames : List Frame) → opened frames t ≡ Some (Want (InFirst ∷ frames) t)
 
 word_opens : (t : List ℕ) → begins_with is_word_byte t ≡ true → First t
 word_opens t h = record {
   closes_not = no_strip 41 [] t refl h;
+  no_semicolon = no_strip 59 [] t refl h;
+  no_brace = no_strip 123 [] t refl h;
+  no_quote = no_strip 34 [] t refl h;
   opens = λ frames. rw (no_strip 45 [] t refl h, no_strip 126 [] t refl h, no_strip 33 [] t refl h, no_strip 42 [] t refl h, no_strip 38 [] t refl h, no_strip 40 [] t refl h) refl;
 }
 
@@ -86,7 +92,7 @@ small n UL h = omega (arith, h)
 pub digits_begin : (n : ℕ) (s : Suffix) (z : List ℕ) → n < 2 ^ 64 → begins_with is_digit ((decimal n ++ suffix_text s) ++ z) ≡ true
 digits_begin n s z h = begins-push is_digit (decimal n ++ suffix_text s) z (begins-push is_digit (decimal n) (suffix_text s) (decimal_is_number n h).some)
 
-no_type : (e : Expr) (z : List ℕ) → WrittenExpr e → begins_with is_word_byte z ≡ false → at_type (expr_text e ++ z) ≡ false
+pub no_type : (e : Expr) (z : List ℕ) → WrittenExpr e → begins_with is_word_byte z ≡ false → at_type (expr_text e ++ z) ≡ false
 no_type (Name name) z w n = no_type_name name z w n
 no_type (Constant m s) z w n = no_type_digit ((decimal m ++ suffix_text s) ++ z) (digits_begin m s z (small m s w))
 no_type (Index a b) z w n = ap at_type (append_assoc (expr_text a) _ z) ∙ no_type a _ w.0 refl
@@ -100,7 +106,7 @@ no_type (Choice c a b) z w n = refl
 no_type (Cast t a) z w n = refl
 
 parenthesis_opens : (t : List ℕ) → at_type t ≡ false → First (40 ∷ t)
-parenthesis_opens t h = record { closes_not = refl; opens = λ frames. ap (λ b. if b then Some (InType frames (types.Before [] t)) else Some (Want (InFirst ∷ frames) (40 ∷ t))) h }
+parenthesis_opens t h = record { closes_not = refl; no_semicolon = refl; no_brace = refl; no_quote = refl; opens = λ frames. ap (λ b. if b then Some (InType frames (types.Before [] t)) else Some (Want (InFirst ∷ frames) (40 ∷ t))) h }
 
 not_type : (op : Prefix) (z : List ℕ) → at_type (prefix_text op ++ z) ≡ false
 not_type Minus z = refl

@@ -8,6 +8,10 @@ pub mod UniqueTypes
 pub mod ExpressionsMachine
 pub mod ExpressionFronts
 pub mod UniqueExpressions
+pub mod UniqueLines
+pub mod StatementFronts
+pub mod UniqueStatements
+pub mod UniquePrograms
 pub mod Rows
 pub mod DefersAlike
 pub mod Related
