@@ -11,6 +11,8 @@ pub mod UniqueExpressions
 pub mod UniqueLines
 pub mod StatementFronts
 pub mod UniqueStatements
+pub mod UniqueInitializers
+pub mod UniqueHeads
 pub mod UniquePrograms
 pub mod Rows
 pub mod DefersAlike
