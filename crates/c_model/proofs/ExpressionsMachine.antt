@@ -1,10 +1,10 @@
 -- A machine that reads an expression: it reads what stands before its suffixes, and then each suffix.
-use Rattle.std.proofs.Common.{◌≡◌, ℕ, zero, suc, ◌+◌, ◌==◌, List, [], ◌∷◌, ◌++◌, Bool, true, false, not, ◌&&◌, ◌||◌, Option, Some, None, if◌then◌else◌, refl, sym, ap, ◌∙◌}
+use Rattle.std.proofs.Common.{ℕ, ◌==◌, List, [], ◌∷◌, ◌++◌, Bool, not, ◌&&◌, Option, Some, None, if◌then◌else◌}
 use Rattle.std.specs.Prelude.{codes}
 use Rattle.std.specs.Str.{bytes_eq}
-use Rattle.c_model.specs.FirstTokens.{is_digit, is_nondigit, is_word_byte, begins_with, AllBytes}
+use Rattle.c_model.specs.FirstTokens.{is_digit, is_nondigit, is_word_byte, begins_with}
 use Rattle.c_model.specs.Names89.{is_among, words}
-use Rattle.c_model.specs.Signs89.{sign_text, logic_text, prefix_text, suffix_text}
+use Rattle.c_model.specs.Signs89.{sign_text, prefix_text}
 use Rattle.c_model.specs.declared.numbers.BinOp.{BinOp}
 use Rattle.c_model.specs.declared.numbers.BinOp.TheVariants.{Mul, Div, Rem, Add, Sub, ShiftLeft, ShiftRight, Less, Greater, LessEqual, GreaterEqual, Equal, NotEqual, BitAnd, BitXor, BitOr}
 use Rattle.c_model.specs.declared.operators.LogicOp.{LogicOp}

@@ -1,19 +1,15 @@
 -- The machine reads each declaration as what it is, so no two are spelled alike.
-use Rattle.std.proofs.Common.{◌≡◌, ℕ, zero, suc, ◌+◌, ◌-◌, ◌*◌, ◌^◌, ◌<◌, ◌≤◌, ◌==◌, List, [], ◌∷◌, ◌++◌, Bool, true, false, not, ◌&&◌, ◌||◌, Option, Some, None, if◌then◌else◌, refl, sym, ap, ◌∙◌, subst, arith, append_assoc}
+use Rattle.std.proofs.Common.{◌≡◌, ℕ, ◌==◌, List, [], ◌∷◌, ◌++◌, Bool, true, false, ◌||◌, Some, None, if◌then◌else◌, refl, sym, ap, ◌∙◌, subst, arith, append_assoc}
 use Rattle.std.specs.Prelude.{codes}
-use Rattle.std.specs.Fmt.{decimal}
 use Rattle.std.specs.Str.{bytes_eq}
 use Rattle.std.proofs.lemmas.Bool.Decides.{nat_tests}
-use Rattle.c_model.specs.FirstTokens.{is_digit, is_nondigit, is_word_byte, begins_with, AllBytes}
+use Rattle.c_model.specs.FirstTokens.{is_nondigit, is_word_byte, begins_with, AllBytes}
 use Rattle.c_model.specs.Names89.{IsName, is_among, words}
-use Rattle.c_model.specs.SpellingParts89.{blank_before, const_text, star_text, pointer_text, count_text, declaration_text, parameters_text, others_text}
-use Rattle.c_model.specs.Signs89.{base_text}
-use Rattle.c_model.specs.Types89.{Base, Void, Char, SignedChar, UnsignedChar, Short, UnsignedShort, Int, UnsignedInt, Long, UnsignedLong, Struct, Type89, Based, Pointer, Array, Function, Types89, no_types, more_types}
-use Rattle.c_model.specs.Written89.{WrittenBase, WrittenCount, WrittenType, WrittenTypes, IsNoVoid, HasFirst}
-use Rattle.c_model.specs.Program89.{Declaration, types_of}
-use Rattle.c_model.proofs.UniqueWords.{strip, front, behind, front_is, behind_is, front_none, behind_none, number, number_is, behind_number, decimal_is_number, begins-push}
-use Rattle.c_model.proofs.ReadingMachine.{Reach, goes, here, by, stays, onwards}
-use Rattle.c_model.proofs.TypesMachine.{Step, Star, Brackets, Parameters, Frame, AfterStar, InParentheses, InParameters, State, Before, At, After, is_void_alone, real, on, apply, skip_blank, at_parenthesis, at_star, at_const, at_name, closed, after_bracket, after_parenthesis, leave, variadic, parameter, after, step, Follows, Ends, reads_base, first_mark}
+use Rattle.c_model.specs.SpellingParts89.{blank_before, star_text, pointer_text}
+use Rattle.c_model.specs.Types89.{Type89, Based, Pointer, Array, Function}
+use Rattle.c_model.proofs.UniqueWords.{strip, front, behind, front_is, behind_is, front_none, behind_none}
+use Rattle.c_model.proofs.ReadingMachine.{Reach, by, stays, onwards}
+use Rattle.c_model.proofs.TypesMachine.{Step, Star, Frame, AfterStar, InParentheses, State, At, After, skip_blank, at_parenthesis, at_star, after_parenthesis, after, step, Follows, Ends}
 
 abbrev pub Reads : State → State → Type 0
 Reads s t = Reach State step s t
@@ -110,15 +106,15 @@ starred false inner steps name d = record {
   fine = refl;
   no_const = λ z e. refl;
   reads = λ frames base z e.
-    by step _ _ _ (ap (λ t. if t then Some (At (AfterStar true ∷ frames) base (skip_blank (behind is_word_byte (inner ++ z)))) else Some (At (AfterStar false ∷ frames) base (inner ++ z))) (d.no_const z e))
-    (onwards step _ _ _ (d.reads (AfterStar false ∷ frames) base z e) (by step _ _ _ (leaves_star frames false base steps name z e) (stays step _)));
+      by step _ _ _ (ap (λ t. if t then Some (At (AfterStar true ∷ frames) base (skip_blank (behind is_word_byte (inner ++ z)))) else Some (At (AfterStar false ∷ frames) base (inner ++ z))) (d.no_const z e))
+      (onwards step _ _ _ (d.reads (AfterStar false ∷ frames) base z e) (by step _ _ _ (leaves_star frames false base steps name z e) (stays step _)));
 }
 starred true inner steps name d = record {
   fine = refl;
   no_const = λ z e. refl;
   reads = λ frames base z e.
-    by step _ _ _ (const frames base z e)
-    (onwards step _ _ _ (d.reads (AfterStar true ∷ frames) base z e) (by step _ _ _ (leaves_star frames true base steps name z e) (stays step _)));
+      by step _ _ _ (const frames base z e)
+      (onwards step _ _ _ (d.reads (AfterStar true ∷ frames) base z e) (by step _ _ _ (leaves_star frames true base steps name z e) (stays step _)));
 }
   where
     const : (frames : List Frame) (base : Type89) (z : List ℕ) → Ends z → step (At frames base (star_text true inner ++ z)) ≡ Some (At (AfterStar true ∷ frames) base (inner ++ z))
@@ -141,9 +137,9 @@ in_parentheses c inner steps name d = record {
   fine = refl;
   no_const = λ z f. refl;
   reads = λ frames base z f.
-    by step _ _ _ (opens c frames base z)
-    (subst (λ t. Reads (At (InParentheses ∷ frames) base t) (After frames base (Star c ∷ steps) name z)) (sym (append_assoc (star_text c inner) (codes ")") z))
-    (onwards step _ _ _ ((starred c inner steps name d).reads (InParentheses ∷ frames) base (41 ∷ z) (parenthesis_ends z)) (by step _ _ _ refl (stays step _))));
+      by step _ _ _ (opens c frames base z)
+      (subst (λ t. Reads (At (InParentheses ∷ frames) base t) (After frames base (Star c ∷ steps) name z)) (sym (append_assoc (star_text c inner) (codes ")") z))
+      (onwards step _ _ _ ((starred c inner steps name d).reads (InParentheses ∷ frames) base (41 ∷ z) (parenthesis_ends z)) (by step _ _ _ refl (stays step _))));
 }
   where
     opens : (c : Bool) (frames : List Frame) (base : Type89) (z : List ℕ) → step (At frames base ((codes "(" ++ (star_text c inner ++ codes ")")) ++ z)) ≡ Some (At (InParentheses ∷ frames) base ((star_text c inner ++ codes ")") ++ z))

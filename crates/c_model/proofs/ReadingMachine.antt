@@ -1,5 +1,5 @@
 -- Machines that read a text step by step: what two readings of one text reach at their ends is the same.
-use Rattle.std.proofs.Common.{◌≡◌, ℕ, List, [], ◌∷◌, ◌++◌, Bool, true, false, ◌==◌, Option, Some, None, if◌then◌else◌, refl, sym, ap, ◌∙◌, subst}
+use Rattle.std.proofs.Common.{◌≡◌, Option, Some, None, refl, sym, ap, ◌∙◌, subst}
 
 -- from a state to a state, by steps
 pub data Reach (S : Type 0) (step : S → Option S) : S → S → Type 0 where

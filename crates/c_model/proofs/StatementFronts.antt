@@ -1,12 +1,11 @@
 -- How statements begin and end: what a line is shows which statement it begins.
-use Rattle.std.proofs.Common.{◌≡◌, ℕ, zero, suc, ◌+◌, ◌==◌, List, [], ◌∷◌, ◌++◌, Bool, true, false, not, ◌&&◌, ◌||◌, Option, Some, None, refl, sym, ap, ◌∙◌, subst, arith, append_assoc}
+use Rattle.std.proofs.Common.{◌≡◌, ℕ, suc, ◌==◌, List, [], ◌∷◌, ◌++◌, false, refl, sym, ap, ◌∙◌, append_assoc}
 use Rattle.std.specs.Prelude.{codes}
-use Rattle.c_model.specs.FirstTokens.{is_word_byte, begins_with}
 use Rattle.c_model.specs.SpellingParts89.{expr_text, indent, objects_text, labels_text, stat_text, stats_text, items_text}
-use Rattle.c_model.specs.Written89.{WrittenExpr, WrittenDeclarations, WrittenLabels, WrittenStat, WrittenStats, WrittenItems}
-use Rattle.c_model.specs.Program89.{Expr, Declaration, Label, Case, Default, Stat, Evaluate, Assign, Empty, Block, If, IfElse, Forever, Switch, Break, Continue, ReturnNothing, Return, Stats, no_stats, more_stats, Items, no_items, an_item}
-use Rattle.c_model.proofs.UniqueExpressions.{Quiet, one_expr}
-use Rattle.c_model.proofs.UniqueLines.{cancel, heads, differ, line_code, code_of, code_behind, code_of_end, code_of_expr, code_of_objects, one_objects, is_label, label_code, is_label_code, code_of_labels, one_labels}
+use Rattle.c_model.specs.Written89.{WrittenDeclarations, WrittenStat, WrittenStats}
+use Rattle.c_model.specs.Program89.{Declaration, Label, Case, Default, Stat, Evaluate, Assign, Empty, Block, If, IfElse, Forever, Switch, Break, Continue, ReturnNothing, Return, Stats, no_stats, more_stats, Items, an_item}
+use Rattle.c_model.proofs.UniqueExpressions.{Quiet}
+use Rattle.c_model.proofs.UniqueLines.{cancel, line_code, code_of, code_behind, code_of_end, code_of_expr, one_objects, is_label, label_code, code_of_labels}
 
 -- what a body is followed by
 abbrev pub body_tail : (level : ℕ) → List Declaration → Stats → List ℕ → List ℕ
@@ -112,7 +111,7 @@ stats_no_object level (more_stats s ss) x w =
     ap (λ t. line_code (suc level) t == 1) (append_assoc (stat_text (suc level) s) (stats_text (suc level) ss) _) ∙ ap (λ c. c == 1) (code_of_stat (suc level) s _ w.0) ∙ (is_stat s).no_object
 
 pub objects_apart : (level : ℕ) (ds es : List Declaration) (ss ts : Stats) (x y : List ℕ) → WrittenDeclarations ds → WrittenDeclarations es → WrittenStats ss → WrittenStats ts → body_tail level ds ss x ≡ body_tail level es ts y
-  → (ds ≡ es) × (stats_text (suc level) ss ++ (indent level ++ (125 ∷ x)) ≡ stats_text (suc level) ts ++ (indent level ++ (125 ∷ y)))
+    → (ds ≡ es) × (stats_text (suc level) ss ++ (indent level ++ (125 ∷ x)) ≡ stats_text (suc level) ts ++ (indent level ++ (125 ∷ y)))
 objects_apart level ds es ss ts x y p q r s e = one_objects (suc level) ds es _ _ p q (stats_no_object level ss x r) (stats_no_object level ts y s) e
 
 pub semicolon_quiet : (z : List ℕ) → Quiet (59 ∷ z)

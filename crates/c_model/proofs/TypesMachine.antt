@@ -1,17 +1,14 @@
 -- A machine that reads the declaration of a name with a type, and that it reads each as what it is.
-use Rattle.std.proofs.Common.{◌≡◌, ℕ, zero, suc, ◌+◌, ◌-◌, ◌*◌, ◌^◌, ◌<◌, ◌≤◌, ◌==◌, List, [], ◌∷◌, ◌++◌, Bool, true, false, not, ◌&&◌, ◌||◌, Option, Some, None, if◌then◌else◌, refl, sym, ap, ◌∙◌, subst, arith, append_assoc}
+use Rattle.std.proofs.Common.{◌≡◌, ℕ, ◌==◌, List, [], ◌∷◌, ◌++◌, Bool, true, false, not, ◌&&◌, Option, Some, None, if◌then◌else◌, refl, ap, ◌∙◌, append_assoc}
 use Rattle.std.specs.Prelude.{codes}
-use Rattle.std.specs.Fmt.{decimal}
 use Rattle.std.specs.Str.{bytes_eq}
-use Rattle.c_model.specs.FirstTokens.{is_digit, is_nondigit, is_word_byte, begins_with, AllBytes}
-use Rattle.c_model.specs.Names89.{IsName}
-use Rattle.c_model.specs.SpellingParts89.{blank_before, const_text, star_text, pointer_text, count_text, declaration_text, parameters_text, others_text}
+use Rattle.c_model.specs.FirstTokens.{is_digit, is_word_byte, begins_with}
+use Rattle.c_model.specs.SpellingParts89.{blank_before, const_text, pointer_text, count_text, declaration_text, parameters_text}
 use Rattle.c_model.specs.Signs89.{base_text}
-use Rattle.c_model.specs.Types89.{Base, Void, Char, SignedChar, UnsignedChar, Short, UnsignedShort, Int, UnsignedInt, Long, UnsignedLong, Struct, Type89, Based, Pointer, Array, Function, Types89, no_types, more_types}
-use Rattle.c_model.specs.Written89.{WrittenBase, WrittenCount, WrittenType, WrittenTypes, IsNoVoid, HasFirst}
+use Rattle.c_model.specs.Types89.{Base, Void, Char, SignedChar, UnsignedChar, Short, UnsignedShort, Int, UnsignedInt, Long, UnsignedLong, Struct, Type89, Based, Pointer, Array, Function}
+use Rattle.c_model.specs.Written89.{WrittenBase}
 use Rattle.c_model.specs.Program89.{Declaration, types_of}
-use Rattle.c_model.proofs.UniqueWords.{strip, front, behind, front_is, behind_is, number, number_is, behind_number}
-use Rattle.c_model.proofs.ReadingMachine.{Reach, goes, here, by, stays, onwards}
+use Rattle.c_model.proofs.UniqueWords.{strip, front, behind, front_is, behind_is, number}
 
 -- what a declarator does to a type; the parameters are those that stand between the parentheses
 pub data Step : Type 0 where

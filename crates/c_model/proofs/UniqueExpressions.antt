@@ -1,27 +1,21 @@
 -- Two expressions with one spelling are the same.
-use Rattle.std.proofs.Common.{◌≡◌, ℕ, zero, suc, ◌+◌, ◌-◌, ◌*◌, ◌^◌, ◌<◌, ◌≤◌, ◌==◌, List, [], ◌∷◌, ◌++◌, Bool, true, false, not, ◌&&◌, ◌||◌, Option, Some, None, if◌then◌else◌, refl, sym, ap, ◌∙◌, subst, arith, append_assoc}
+use Rattle.std.proofs.Common.{◌≡◌, ℕ, ◌≤◌, List, [], ◌∷◌, ◌++◌, true, false, Option, Some, None, if◌then◌else◌, refl, sym, ap, ◌∙◌, subst, append_assoc}
 use Rattle.std.specs.Prelude.{codes}
 use Rattle.std.specs.Fmt.{decimal}
-use Rattle.std.specs.Str.{bytes_eq}
-use Rattle.std.proofs.lemmas.Bool.Decides.{nat_tests}
 use Rattle.c_model.specs.FirstTokens.{is_digit, is_nondigit, is_word_byte, begins_with, AllBytes}
-use Rattle.c_model.specs.Names89.{IsName, is_among, words}
-use Rattle.c_model.specs.SpellingParts89.{blank_before, declaration_text, pointer_text, count_text, parameters_text, expr_text, arguments_text, more_arguments_text}
-use Rattle.c_model.specs.Signs89.{base_text, sign_text, logic_text, prefix_text, suffix_text}
+use Rattle.c_model.specs.Names89.{IsName}
+use Rattle.c_model.specs.SpellingParts89.{declaration_text, expr_text, more_arguments_text}
+use Rattle.c_model.specs.Signs89.{sign_text, logic_text, prefix_text, suffix_text}
 use Rattle.c_model.specs.declared.numbers.BinOp.{BinOp}
-use Rattle.c_model.specs.declared.numbers.BinOp.TheVariants.{Mul, Div, Rem, Add, Sub, ShiftLeft, ShiftRight, Less, Greater, LessEqual, GreaterEqual, Equal, NotEqual, BitAnd, BitXor, BitOr}
 use Rattle.c_model.specs.declared.operators.LogicOp.{LogicOp}
-use Rattle.c_model.specs.declared.operators.LogicOp.TheVariants.{And, Or}
-use Rattle.c_model.specs.Types89.{Base, Void, Char, SignedChar, UnsignedChar, Short, UnsignedShort, Int, UnsignedInt, Long, UnsignedLong, Struct, Type89, Based, Pointer, Array, Function}
-use Rattle.c_model.specs.Written89.{WrittenType, WrittenExpr, WrittenExprs, greatest}
+use Rattle.c_model.specs.Types89.{Type89}
+use Rattle.c_model.specs.Written89.{WrittenExpr, WrittenExprs, greatest}
 use Rattle.c_model.specs.Program89.{Expr, Name, Constant, Index, Member, Arrow, Call, Unary, Binary, Logic, Choice, Cast, Exprs, no_exprs, more_exprs, Prefix, Minus, Complement, Not, Deref, AddressOf, Suffix, Plain, U, L, UL}
-use Rattle.c_model.proofs.UniqueWords.{strip, front, behind, front_is, behind_is, front_none, behind_none, number, number_is, behind_number, decimal_is_number, begins-push}
-use Rattle.c_model.proofs.ReadingMachine.{Reach, goes, here, by, stays, onwards, one_end}
+use Rattle.c_model.proofs.UniqueWords.{strip, front, behind, front_is, behind_is, number_is, behind_number}
+use Rattle.c_model.proofs.ReadingMachine.{by, stays, onwards, one_end}
 use Rattle.c_model.proofs.TypesMachine as types
-use Rattle.c_model.proofs.ReadDeclarators.{direct_fits, nothing, blank_is_no_word, parenthesis_ends}
-use Rattle.c_model.proofs.UniqueTypes.{declared, root, spine, apply_spine, ended}
-use Rattle.c_model.proofs.ExpressionFronts.{Reads, First, no_word_no_digit, nondigit_is_no_digit, small, digits_begin, first_of, type_begins, reads_cast, operation_text, reads_operation}
-use Rattle.c_model.proofs.ExpressionsMachine.{Operation, OfBinary, OfLogic, OfChoice, Frame, InIndex, InCall, InUnary, InFirst, InBinary, InLogic, InSecond, InThird, InCast, State, Want, InType, Have, exprs, suffix_of, at_number, at_name, at_type, second_parenthesis, opened, at_parenthesis, begin, type_ended, type_end, in_type, is_mark, operation_of, behind_operation, wants, operates, behind_first, has, behind_argument, leave, arguments, after_call, after_arrow, after_dot, after_index, step}
+use Rattle.c_model.proofs.ExpressionFronts.{Reads, no_word_no_digit, nondigit_is_no_digit, small, digits_begin, first_of, type_begins, reads_cast, operation_text, reads_operation}
+use Rattle.c_model.proofs.ExpressionsMachine.{Operation, OfBinary, OfLogic, OfChoice, Frame, InIndex, InCall, InUnary, InFirst, InBinary, InLogic, InSecond, InThird, InCast, State, Want, InType, Have, exprs, suffix_of, at_number, at_name, at_parenthesis, arguments, after_call, after_arrow, after_dot, after_index, step}
 
 abbrev list_of : Exprs → List Expr
 list_of no_exprs = []

@@ -1,21 +1,20 @@
 -- How the declarations of a file begin: storage classes, and the heads of functions.
-use Rattle.std.proofs.Common.{◌≡◌, ℕ, zero, suc, ◌==◌, List, [], ◌∷◌, ◌++◌, Bool, true, false, not, ◌&&◌, ◌||◌, Option, Some, None, if◌then◌else◌, refl, sym, ap, ◌∙◌, subst, arith, append_assoc}
+use Rattle.std.proofs.Common.{◌≡◌, ℕ, List, [], ◌∷◌, ◌++◌, Bool, true, false, Option, Some, None, if◌then◌else◌, refl, sym, ap, ◌∙◌, subst, arith, append_assoc}
 use Rattle.std.specs.Prelude.{codes}
-use Rattle.std.proofs.lemmas.Bool.Decides.{nat_tests}
-use Rattle.c_model.specs.FirstTokens.{is_nondigit, is_word_byte, begins_with}
+use Rattle.c_model.specs.FirstTokens.{is_nondigit, begins_with}
 use Rattle.c_model.specs.Names89.{IsName}
-use Rattle.c_model.specs.SpellingParts89.{blank_before, const_text, star_text, pointer_text, count_text, declaration_text, parameters_text}
+use Rattle.c_model.specs.SpellingParts89.{declaration_text}
 use Rattle.c_model.specs.Spelling89.{named_text, more_named_text, head_text}
-use Rattle.c_model.specs.Signs89.{base_text, storage_text, storage_of}
-use Rattle.c_model.specs.Types89.{Base, Void, Char, SignedChar, UnsignedChar, Short, UnsignedShort, Int, UnsignedInt, Long, UnsignedLong, Struct, Type89, Based, Pointer, Array, Function, Types89, no_types, more_types}
+use Rattle.c_model.specs.Signs89.{storage_text}
+use Rattle.c_model.specs.Types89.{Base, Void, Char, SignedChar, UnsignedChar, Short, UnsignedShort, Int, UnsignedInt, Long, UnsignedLong, Struct, Type89, Based, Pointer, Array, Function}
 use Rattle.c_model.specs.Written89.{WrittenType, WrittenDeclarations, HasFirst}
 use Rattle.c_model.specs.Program89.{Declaration, types_of, Storage, Plainly, Static, Extern}
 use Rattle.c_model.specs.Program89 as text
-use Rattle.c_model.proofs.UniqueWords.{strip, front, behind, front_is, behind_is, begins-push}
-use Rattle.c_model.proofs.ReadingMachine.{Reach, by, stays, onwards}
-use Rattle.c_model.proofs.TypesMachine.{Step, Parameters, Frame, InParameters, State, Before, After, is_void_alone, real, parameter, step, Follows, Ends, first_mark}
-use Rattle.c_model.proofs.ReadDeclarators.{Reads, Direct, Fits, direct_fits, named, parenthesis_ends}
-use Rattle.c_model.proofs.UniqueTypes.{root, spine, apply_spine, declared, comma, with_parameters, Alike, alike}
+use Rattle.c_model.proofs.UniqueWords.{strip}
+use Rattle.c_model.proofs.ReadingMachine.{by, stays, onwards}
+use Rattle.c_model.proofs.TypesMachine.{Step, Parameters, Frame, InParameters, Before, After, is_void_alone, real, parameter, step, Follows, Ends, first_mark}
+use Rattle.c_model.proofs.ReadDeclarators.{Reads, Direct, direct_fits, named, parenthesis_ends}
+use Rattle.c_model.proofs.UniqueTypes.{root, spine, apply_spine, declared, comma, with_parameters, alike}
 use Rattle.c_model.proofs.UniqueLines.{cancel, heads}
 
 -- parameters as they are written
@@ -66,7 +65,7 @@ reads_named : (d : Declaration) → WrittenType d.type → IsName d.name → (fr
 reads_named d w is frames z e = declared d.type w d.name [] d.name (direct_fits d.type d.name [] d.name (named d.name is)) frames z e
 
 more : (ds : List Declaration) (v : Bool) → WrittenDeclarations ds → (frames : List Frame) (outer : Type89) (outer_steps : List Step) (outer_name : List ℕ) (done : List Declaration) (base : Type89) (steps : List Step) (name z : List ℕ)
-  → Reads (After (InParameters outer outer_steps outer_name done ∷ frames) base steps name (more_named_text ds v ++ (codes ")" ++ z))) (After frames outer (Parameters (done ++ (parameter base steps name ∷ ds)) v ∷ outer_steps) outer_name z)
+    → Reads (After (InParameters outer outer_steps outer_name done ∷ frames) base steps name (more_named_text ds v ++ (codes ")" ++ z))) (After frames outer (Parameters (done ++ (parameter base steps name ∷ ds)) v ∷ outer_steps) outer_name z)
 more [] false w frames outer outer_steps outer_name done base steps name z = by step _ _ _ refl (stays step _)
 more [] true w frames outer outer_steps outer_name done base steps name z = by step _ _ _ refl (stays step _)
 more (d ∷ ds) v w frames outer outer_steps outer_name done base steps name z =
@@ -81,7 +80,7 @@ more (d ∷ ds) v w frames outer outer_steps outer_name done base steps name z =
     (more ds v w.2 frames outer outer_steps outer_name (done ++ (p ∷ [])) (root d.type) (spine [] d.type) d.name z)))))
 
 parameters : (ds : List Declaration) (v : Bool) → WrittenDeclarations ds → HasFirst (types_of ds) v → (frames : List Frame) (base : Type89) (steps : List Step) (name z : List ℕ)
-  → Reads (Before (InParameters base steps name [] ∷ frames) (named_text ds v ++ (codes ")" ++ z))) (After frames base (Parameters (written ds) v ∷ steps) name z)
+    → Reads (Before (InParameters base steps name [] ∷ frames) (named_text ds v ++ (codes ")" ++ z))) (After frames base (Parameters (written ds) v ∷ steps) name z)
 parameters [] true w h frames base steps name z = absurd h
 parameters [] false w h frames base steps name z = by step _ _ _ refl (by step _ _ _ refl (by step _ _ _ refl (stays step _)))
 parameters (d ∷ ds) v w h frames base steps name z =
@@ -122,9 +121,9 @@ line_ends z = record { follows = record { no_word = refl; no_blank = refl; no_st
 
 -- two heads of functions with one spelling
 pub one_head : (f g : text.Function) (x y : List ℕ) → WrittenType f.result → IsName f.name → WrittenDeclarations f.parameters → HasFirst (types_of f.parameters) f.is_variadic
-  → WrittenType g.result → IsName g.name → WrittenDeclarations g.parameters → HasFirst (types_of g.parameters) g.is_variadic
-  → declaration_text f.result (head_text f) ++ (10 ∷ x) ≡ declaration_text g.result (head_text g) ++ (10 ∷ y)
-  → (f.result ≡ g.result) × (f.name ≡ g.name) × (f.parameters ≡ g.parameters) × (f.is_variadic ≡ g.is_variadic) × (10 ∷ x ≡ 10 ∷ y)
+    → WrittenType g.result → IsName g.name → WrittenDeclarations g.parameters → HasFirst (types_of g.parameters) g.is_variadic
+    → declaration_text f.result (head_text f) ++ (10 ∷ x) ≡ declaration_text g.result (head_text g) ++ (10 ∷ y)
+    → (f.result ≡ g.result) × (f.name ≡ g.name) × (f.parameters ≡ g.parameters) × (f.is_variadic ≡ g.is_variadic) × (10 ∷ x ≡ 10 ∷ y)
 one_head f g x y fr fn fp fv gr gn gp gv e =
     let fs = Parameters (written f.parameters) f.is_variadic in
     let gs = Parameters (written g.parameters) g.is_variadic in
@@ -159,7 +158,7 @@ none_some o t p q = absurd (let f : None ≡ Some t = sym p ∙ q in cc)
 
 -- what stands behind a storage class is a declaration
 pub one_storage : (s r : Storage) (t u : Type89) (inner within x y : List ℕ) → storage_text s ++ (declaration_text t inner ++ x) ≡ storage_text r ++ (declaration_text u within ++ y)
-  → (s ≡ r) × (declaration_text t inner ++ x ≡ declaration_text u within ++ y)
+    → (s ≡ r) × (declaration_text t inner ++ x ≡ declaration_text u within ++ y)
 one_storage Plainly Plainly t u inner within x y e = (refl, e)
 one_storage Plainly Static t u inner within x y e = none_some (strip (codes "static ") (declaration_text t inner ++ x)) _ (first_word t inner x).0 (ap (strip (codes "static ")) e)
 one_storage Plainly Extern t u inner within x y e = none_some (strip (codes "extern ") (declaration_text t inner ++ x)) _ (first_word t inner x).1 (ap (strip (codes "extern ")) e)

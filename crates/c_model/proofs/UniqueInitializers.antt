@@ -1,8 +1,7 @@
 -- Two initial values with one spelling are the same.
-use Rattle.std.proofs.Common.{◌≡◌, ℕ, zero, suc, ◌+◌, ◌-◌, ◌*◌, ◌/◌, ◌%◌, ◌<◌, ◌≤◌, ◌==◌, List, [], ◌∷◌, ◌++◌, Bool, true, false, not, ◌&&◌, ◌||◌, Option, Some, None, if◌then◌else◌, refl, sym, ap, ◌∙◌, arith, append_assoc}
+use Rattle.std.proofs.Common.{◌≡◌, ℕ, ◌+◌, ◌-◌, ◌*◌, ◌/◌, ◌%◌, ◌<◌, ◌==◌, List, [], ◌∷◌, ◌++◌, Bool, true, false, ◌&&◌, ◌||◌, Option, Some, None, if◌then◌else◌, refl, sym, ap, ◌∙◌, arith, append_assoc}
 use Rattle.std.specs.Prelude.{codes, nat_le}
 use Rattle.std.proofs.lemmas.Bool.Decides.{nat_tests}
-use Rattle.c_model.specs.SpellingParts89.{expr_text}
 use Rattle.c_model.specs.Spelling89.{byte_text, bytes_text, init_text, inits_text, value_text}
 use Rattle.c_model.specs.Written89.{WrittenBytes, WrittenInit, WrittenInits, WrittenValue}
 use Rattle.c_model.specs.Program89.{Init, Value, Text, Braces, Inits, no_inits, more_inits}

@@ -1,16 +1,15 @@
 -- Lines of declarations and labels: what a line is shows by its indent and its first word.
-use Rattle.std.proofs.Common.{◌≡◌, ℕ, zero, suc, ◌+◌, ◌==◌, List, [], ◌∷◌, ◌++◌, Bool, true, false, not, ◌&&◌, ◌||◌, Option, Some, None, if◌then◌else◌, refl, sym, ap, ◌∙◌, subst, arith, append_assoc}
+use Rattle.std.proofs.Common.{◌≡◌, ℕ, zero, suc, ◌==◌, List, [], ◌∷◌, ◌++◌, Bool, true, false, ◌||◌, Option, Some, None, if◌then◌else◌, refl, sym, ap, ◌∙◌, arith, append_assoc}
 use Rattle.std.specs.Prelude.{codes}
 use Rattle.std.specs.Str.{bytes_eq}
 use Rattle.std.proofs.lemmas.Bool.Decides.{nat_tests}
-use Rattle.c_model.specs.FirstTokens.{is_digit, is_nondigit, is_word_byte, begins_with, AllBytes}
-use Rattle.c_model.specs.Names89.{IsName}
-use Rattle.c_model.specs.SpellingParts89.{blank_before, declaration_text, pointer_text, count_text, parameters_text, expr_text, indent, objects_text, label_text, labels_text}
+use Rattle.c_model.specs.FirstTokens.{is_word_byte, begins_with}
+use Rattle.c_model.specs.SpellingParts89.{blank_before, declaration_text, expr_text, indent, objects_text, label_text, labels_text}
 use Rattle.c_model.specs.Signs89.{base_text}
 use Rattle.c_model.specs.Types89.{Base, Void, Char, SignedChar, UnsignedChar, Short, UnsignedShort, Int, UnsignedInt, Long, UnsignedLong, Struct, Type89, Based, Pointer, Array, Function}
-use Rattle.c_model.specs.Written89.{WrittenType, WrittenExpr, WrittenDeclarations, WrittenLabels}
+use Rattle.c_model.specs.Written89.{WrittenExpr, WrittenDeclarations, WrittenLabels}
 use Rattle.c_model.specs.Program89.{Expr, Declaration, Label, Case, Default}
-use Rattle.c_model.proofs.UniqueWords.{strip, front, behind}
+use Rattle.c_model.proofs.UniqueWords.{strip, front}
 use Rattle.c_model.proofs.ReadDeclarators.{blank_is_no_word}
 use Rattle.c_model.proofs.TypesMachine.{Ends}
 use Rattle.c_model.proofs.UniqueTypes.{one_declaration}
@@ -118,7 +117,7 @@ pub code_of_objects : (level : ℕ) (d : Declaration) (ds : List Declaration) (x
 code_of_objects level d ds x = ap (line_code level) (objects_whole level d ds x) ∙ code_behind level _ ∙ code_of_type d.type d.name (codes ";\n" ++ (objects_text level ds ++ x)) refl
 
 pub one_objects : (level : ℕ) (ds es : List Declaration) (x y : List ℕ) → WrittenDeclarations ds → WrittenDeclarations es → (line_code level x == 1) ≡ false → (line_code level y == 1) ≡ false
-  → objects_text level ds ++ x ≡ objects_text level es ++ y → (ds ≡ es) × (x ≡ y)
+    → objects_text level ds ++ x ≡ objects_text level es ++ y → (ds ≡ es) × (x ≡ y)
 one_objects level [] [] x y p q m n e = (refl, e)
 one_objects level [] (d ∷ es) x y p q m n e = differ (sym (ap (λ c. c == 1) (ap (line_code level) e ∙ code_of_objects level d es y)) ∙ m)
 one_objects level (d ∷ ds) [] x y p q m n e = differ (sym (ap (λ c. c == 1) (ap (line_code level) (sym e) ∙ code_of_objects level d ds x)) ∙ n)
@@ -161,7 +160,7 @@ colon_quiet : (z : List ℕ) → Quiet (58 ∷ z)
 colon_quiet z = record { no_word = refl; no_index = refl; no_member = refl; no_arrow = refl; no_call = refl }
 
 pub one_labels : (level : ℕ) (ls ms : List Label) (x y : List ℕ) → WrittenLabels ls → WrittenLabels ms → is_label (line_code level x) ≡ false → is_label (line_code level y) ≡ false
-  → labels_text level ls ++ x ≡ labels_text level ms ++ y → (ls ≡ ms) × (x ≡ y)
+    → labels_text level ls ++ x ≡ labels_text level ms ++ y → (ls ≡ ms) × (x ≡ y)
 one_labels level [] [] x y p q m n e = (refl, e)
 one_labels level [] (l ∷ ms) x y p q m n e = differ (sym (ap is_label (ap (line_code level) e ∙ code_of_labels level l ms y) ∙ is_label_code l) ∙ m)
 one_labels level (l ∷ ls) [] x y p q m n e = differ (sym (ap is_label (ap (line_code level) (sym e) ∙ code_of_labels level l ls x) ∙ is_label_code l) ∙ n)

@@ -1,12 +1,12 @@
 -- Two lists of statements with one spelling are the same.
-use Rattle.std.proofs.Common.{◌≡◌, ℕ, zero, suc, ◌+◌, ◌==◌, List, [], ◌∷◌, ◌++◌, Bool, true, false, refl, sym, ap, ◌∙◌, arith, append_assoc}
+use Rattle.std.proofs.Common.{◌≡◌, ℕ, suc, ◌==◌, List, [], ◌∷◌, ◌++◌, refl, sym, ap, ◌∙◌, arith, append_assoc}
 use Rattle.std.specs.Prelude.{codes}
-use Rattle.c_model.specs.SpellingParts89.{expr_text, indent, objects_text, labels_text, stat_text, stats_text, items_text}
-use Rattle.c_model.specs.Written89.{WrittenExpr, WrittenDeclarations, WrittenLabels, WrittenStat, WrittenStats, WrittenItems}
-use Rattle.c_model.specs.Program89.{Expr, Declaration, Label, Stat, Evaluate, Assign, Empty, Block, If, IfElse, Forever, Switch, Break, Continue, ReturnNothing, Return, Stats, no_stats, more_stats, Items, no_items, an_item}
+use Rattle.c_model.specs.SpellingParts89.{indent, stat_text, stats_text, items_text}
+use Rattle.c_model.specs.Written89.{WrittenStat, WrittenStats, WrittenItems}
+use Rattle.c_model.specs.Program89.{Stat, Evaluate, Assign, Empty, Block, If, IfElse, Forever, Switch, Break, Continue, ReturnNothing, Return, Stats, no_stats, more_stats, Items, no_items, an_item}
 use Rattle.c_model.proofs.UniqueExpressions.{one_expr}
 use Rattle.c_model.proofs.UniqueLines.{cancel, heads, differ, line_code, code_of_end, one_labels}
-use Rattle.c_model.proofs.StatementFronts.{body_tail, stat_tail, stat_code, same_tail, other_code, items_code, stat_no_label, item_whole, semicolon_quiet, blank_quiet, closing_quiet, code_of_stat, is_stat, objects_apart}
+use Rattle.c_model.proofs.StatementFronts.{stat_tail, same_tail, other_code, items_code, stat_no_label, item_whole, semicolon_quiet, blank_quiet, closing_quiet, code_of_stat, is_stat, objects_apart}
 
 mutual
   -- statements behind their indent
@@ -71,7 +71,7 @@ mutual
 
   -- the statements of a body, up to its end
   pub one_stats : (level : ℕ) (ss ts : Stats) (x y : List ℕ) → WrittenStats ss → WrittenStats ts
-    → stats_text (suc level) ss ++ (indent level ++ (125 ∷ x)) ≡ stats_text (suc level) ts ++ (indent level ++ (125 ∷ y)) → (ss ≡ ts) × (x ≡ y)
+      → stats_text (suc level) ss ++ (indent level ++ (125 ∷ x)) ≡ stats_text (suc level) ts ++ (indent level ++ (125 ∷ y)) → (ss ≡ ts) × (x ≡ y)
   one_stats level no_stats no_stats x y p q e = (refl, cancel (125 ∷ []) x y (cancel (indent level) _ _ e))
   one_stats level no_stats (more_stats t ts) x y p q e =
       differ (ap (λ c. c == 0) (sym (code_of_end level x)) ∙ ap (λ r. line_code (suc level) r == 0) (e ∙ append_assoc (stat_text (suc level) t) (stats_text (suc level) ts) _) ∙ ap (λ c. c == 0) (code_of_stat (suc level) t _ q.0) ∙ (is_stat t).no_end)
@@ -84,7 +84,7 @@ mutual
 
   -- the items of a switch
   one_items : (level : ℕ) (is js : Items) (x y : List ℕ) → WrittenItems is → WrittenItems js
-    → items_text (suc level) is ++ (indent level ++ (125 ∷ x)) ≡ items_text (suc level) js ++ (indent level ++ (125 ∷ y)) → (is ≡ js) × (x ≡ y)
+      → items_text (suc level) is ++ (indent level ++ (125 ∷ x)) ≡ items_text (suc level) js ++ (indent level ++ (125 ∷ y)) → (is ≡ js) × (x ≡ y)
   one_items level no_items no_items x y p q e = (refl, cancel (125 ∷ []) x y (cancel (indent level) _ _ e))
   one_items level no_items (an_item ls t js) x y p q e =
       differ (ap (λ c. c == 0) (sym (code_of_end level x)) ∙ ap (λ r. line_code (suc level) r == 0) (e ∙ item_whole (suc level) ls t js _) ∙ items_code (suc level) ls t _ q.1)

@@ -1,19 +1,19 @@
 -- Two declarations with one spelling have the same type and name.
-use Rattle.std.proofs.Common.{◌≡◌, ℕ, zero, suc, ◌+◌, ◌-◌, ◌*◌, ◌^◌, ◌<◌, ◌≤◌, ◌==◌, List, [], ◌∷◌, ◌++◌, Bool, true, false, not, ◌&&◌, ◌||◌, Option, Some, None, if◌then◌else◌, refl, sym, ap, ◌∙◌, subst, arith, append_assoc}
+use Rattle.std.proofs.Common.{◌≡◌, ℕ, ◌==◌, List, [], ◌∷◌, ◌++◌, Bool, true, false, Option, Some, None, if◌then◌else◌, refl, sym, ap, ◌∙◌, subst, append_assoc}
 use Rattle.std.specs.Prelude.{codes}
 use Rattle.std.specs.Fmt.{decimal}
 use Rattle.std.specs.Str.{bytes_eq}
-use Rattle.c_model.specs.FirstTokens.{is_digit, is_nondigit, is_word_byte, begins_with, AllBytes}
+use Rattle.c_model.specs.FirstTokens.{is_digit, is_word_byte, begins_with}
 use Rattle.c_model.specs.Names89.{IsName}
-use Rattle.c_model.specs.SpellingParts89.{blank_before, const_text, star_text, pointer_text, count_text, declaration_text, parameters_text, others_text}
+use Rattle.c_model.specs.SpellingParts89.{blank_before, const_text, pointer_text, count_text, declaration_text, parameters_text, others_text}
 use Rattle.c_model.specs.Signs89.{base_text}
-use Rattle.c_model.specs.Types89.{Base, Void, Char, Struct, Type89, Based, Pointer, Array, Function, Types89, no_types, more_types}
-use Rattle.c_model.specs.Written89.{WrittenBase, WrittenCount, WrittenType, WrittenTypes, IsNoVoid, HasFirst}
+use Rattle.c_model.specs.Types89.{Void, Type89, Based, Pointer, Array, Function, Types89, no_types, more_types}
+use Rattle.c_model.specs.Written89.{WrittenCount, WrittenType, WrittenTypes, IsNoVoid, HasFirst}
 use Rattle.c_model.specs.Program89.{Declaration, types_of}
 use Rattle.c_model.proofs.UniqueWords.{strip, front, behind, number, number_is, behind_number, decimal_is_number, begins-push}
-use Rattle.c_model.proofs.ReadingMachine.{Reach, goes, here, by, stays, onwards, one_end}
-use Rattle.c_model.proofs.TypesMachine.{Step, Star, Brackets, Parameters, Frame, AfterStar, InParentheses, InParameters, State, Before, At, After, is_void_alone, real, on, apply, skip_blank, closed, after_bracket, after_parenthesis, leave, next_one, last_one, variadic, parameter, after, step, Follows, Ends, reads_base, first_mark}
-use Rattle.c_model.proofs.ReadDeclarators.{Reads, Direct, Full, Fits, direct_fits, pointer_fits, nothing, named, skips, blank_is_no_word, fine_push, parenthesis_ends}
+use Rattle.c_model.proofs.ReadingMachine.{by, stays, onwards, one_end}
+use Rattle.c_model.proofs.TypesMachine.{Step, Star, Brackets, Parameters, Frame, InParameters, State, Before, At, After, is_void_alone, real, apply, closed, after_bracket, after_parenthesis, variadic, parameter, after, step, Follows, Ends, reads_base, first_mark}
+use Rattle.c_model.proofs.ReadDeclarators.{Reads, Direct, Fits, direct_fits, pointer_fits, nothing, named, skips, blank_is_no_word, fine_push, parenthesis_ends}
 
 -- brackets
 
@@ -39,8 +39,8 @@ bracketed n w inner steps name d = record {
   fine = fine_push inner (count_text n) d.fine (count_is_fine n);
   no_const = λ z f. ap (λ t. bytes_eq (codes "const") (front is_word_byte t)) (append_assoc inner (count_text n) z) ∙ d.no_const (count_text n ++ z) (count_follows n z);
   reads = λ frames base z f.
-    subst (λ t. Reads (At frames base t) (After frames base (Brackets n ∷ steps) name z)) (sym (append_assoc inner (count_text n) z))
-    (onwards step _ _ _ (d.reads frames base (count_text n ++ z) (count_follows n z)) (by step _ _ _ (reads_count n w frames base steps name z) (stays step _)));
+      subst (λ t. Reads (At frames base t) (After frames base (Brackets n ∷ steps) name z)) (sym (append_assoc inner (count_text n) z))
+      (onwards step _ _ _ (d.reads frames base (count_text n ++ z) (count_follows n z)) (by step _ _ _ (reads_count n w frames base steps name z) (stays step _)));
 }
 
 -- parameters
@@ -96,7 +96,7 @@ others_end (more_types t ts) v z = record { follows = record { no_word = refl; n
 
 -- a parameter stands behind a comma
 pub comma : (frames : List Frame) (outer base : Type89) (outer_steps steps : List Step) (outer_name name : List ℕ) (done : List Declaration) (t : Type89) (inner z : List ℕ)
-  → step (After (InParameters outer outer_steps outer_name done ∷ frames) base steps name (codes ", " ++ (declaration_text t inner ++ z))) ≡ Some (Before (InParameters outer outer_steps outer_name (done ++ (parameter base steps name ∷ [])) ∷ frames) (declaration_text t inner ++ z))
+    → step (After (InParameters outer outer_steps outer_name done ∷ frames) base steps name (codes ", " ++ (declaration_text t inner ++ z))) ≡ Some (Before (InParameters outer outer_steps outer_name (done ++ (parameter base steps name ∷ [])) ∷ frames) (declaration_text t inner ++ z))
 comma frames outer base outer_steps steps outer_name name done t inner z =
     ap (variadic frames outer outer_steps outer_name (done ++ (parameter base steps name ∷ [])) (codes ", " ++ (declaration_text t inner ++ z))) (first_mark t inner z).1
 
@@ -111,14 +111,14 @@ parameters_follow (more_types t ts) v z = record {
 
 -- parameters in parentheses behind a declarator
 pub with_parameters : (text : List ℕ) (ds : List Declaration) (v : Bool) → ((z : List ℕ) → Follows (codes "(" ++ (text ++ z)))
-  → ((frames : List Frame) (base : Type89) (steps : List Step) (name z : List ℕ) → Reads (Before (InParameters base steps name [] ∷ frames) (text ++ (codes ")" ++ z))) (After frames base (Parameters ds v ∷ steps) name z))
-  → (inner : List ℕ) (steps : List Step) (name : List ℕ) → Direct inner steps name → Direct (inner ++ (codes "(" ++ (text ++ codes ")"))) (Parameters ds v ∷ steps) name
+    → ((frames : List Frame) (base : Type89) (steps : List Step) (name z : List ℕ) → Reads (Before (InParameters base steps name [] ∷ frames) (text ++ (codes ")" ++ z))) (After frames base (Parameters ds v ∷ steps) name z))
+    → (inner : List ℕ) (steps : List Step) (name : List ℕ) → Direct inner steps name → Direct (inner ++ (codes "(" ++ (text ++ codes ")"))) (Parameters ds v ∷ steps) name
 with_parameters text ds v follows reads inner steps name d = record {
   fine = fine_push inner _ d.fine refl;
   no_const = λ z f. ap (λ t. bytes_eq (codes "const") (front is_word_byte t)) (whole z) ∙ d.no_const _ (follows (codes ")" ++ z));
   reads = λ frames base z f.
-    subst (λ t. Reads (At frames base t) (After frames base (Parameters ds v ∷ steps) name z)) (sym (whole z))
-    (onwards step _ _ _ (d.reads frames base _ (follows (codes ")" ++ z))) (by step _ _ _ refl (reads frames base steps name z)));
+      subst (λ t. Reads (At frames base t) (After frames base (Parameters ds v ∷ steps) name z)) (sym (whole z))
+      (onwards step _ _ _ (d.reads frames base _ (follows (codes ")" ++ z))) (by step _ _ _ refl (reads frames base steps name z)));
 }
   where
     whole : (z : List ℕ) → (inner ++ (codes "(" ++ (text ++ codes ")"))) ++ z ≡ inner ++ (codes "(" ++ (text ++ (codes ")" ++ z)))
@@ -148,7 +148,7 @@ mutual
       (others ts v w.2 frames base steps name [] (root t) (spine [] t) [] z)))
 
   others : (ts : Types89) (v : Bool) → WrittenTypes ts → (frames : List Frame) (outer : Type89) (outer_steps : List Step) (outer_name : List ℕ) (done : List Declaration) (base : Type89) (steps : List Step) (name z : List ℕ)
-    → Reads (After (InParameters outer outer_steps outer_name done ∷ frames) base steps name (others_text ts v ++ (codes ")" ++ z))) (After frames outer (Parameters (done ++ (parameter base steps name ∷ nameless ts)) v ∷ outer_steps) outer_name z)
+      → Reads (After (InParameters outer outer_steps outer_name done ∷ frames) base steps name (others_text ts v ++ (codes ")" ++ z))) (After frames outer (Parameters (done ++ (parameter base steps name ∷ nameless ts)) v ∷ outer_steps) outer_name z)
   others no_types false w frames outer outer_steps outer_name done base steps name z = by step _ _ _ refl (stays step _)
   others no_types true w frames outer outer_steps outer_name done base steps name z = by step _ _ _ refl (stays step _)
   others (more_types t ts) v w frames outer outer_steps outer_name done base steps name z =
@@ -194,7 +194,7 @@ pub record Alike (t u : Type89) (steps others : List Step) (name other x y : Lis
   pub behind : x ≡ y
 
 pub alike : (t u : Type89) (inner within : List ℕ) (steps others : List Step) (name other x y : List ℕ) → WrittenType t → WrittenType u → Fits t inner steps name → Fits u within others other → Ends x → Ends y
-  → declaration_text t inner ++ x ≡ declaration_text u within ++ y → Alike t u steps others name other x y
+    → declaration_text t inner ++ x ≡ declaration_text u within ++ y → Alike t u steps others name other x y
 alike t u inner within steps others name other x y p q f g m n e =
     let one = declared t p inner steps name f [] x m in
     let two = subst (λ z. Reads (Before [] z) (After [] (root u) (spine others u) other y)) (sym e) (declared u q within others other g [] y n) in
