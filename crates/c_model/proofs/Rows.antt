@@ -106,8 +106,8 @@ seven_typed : Typed seven_program
 seven_typed = record {
   written = record {
     structures = tt;
-    outers = ((tt, tt), main_is_name, tt, tt);
-    functions = (tt, main_is_name, tt, tt, ((lit≤ tt, (lit≤ tt, lit≤ tt)), tt), tt);
+    outers = ((tt, tt, tt), main_is_name, tt, tt);
+    functions = (tt, main_is_name, (tt, tt), tt, ((lit≤ tt, (lit≤ tt, lit≤ tt)), tt), tt);
   };
   types = refl;
 }

@@ -1,8 +1,8 @@
 -- What stands in a C89 program as a word or number: names are names and constants have the values of their
 -- types (ISO/IEC 9899:1990, 6.1.2, 6.1.3.2).
-use Rattle.std.specs.Prelude.{ℕ, ◌<◌, ◌≤◌, List, [], ◌∷◌, Option, Some, None}
+use Rattle.std.specs.Prelude.{ℕ, Bool, true, false, ◌<◌, ◌≤◌, List, [], ◌∷◌, Option, Some, None}
 use Rattle.c_model.specs.Names89.{IsName}
-use Rattle.c_model.specs.Types89.{Base, Struct, Type89, Based, Pointer, Array, Function as FunctionType, Types89, no_types, more_types}
+use Rattle.c_model.specs.Types89.{Base, Void, Struct, Type89, Based, Pointer, Array, Function as FunctionType, Types89, no_types, more_types}
 use Rattle.c_model.specs.Program89 as text
 
 -- the greatest value of a constant with these letters
@@ -21,16 +21,26 @@ abbrev pub WrittenCount : Option ℕ → Type 0
 WrittenCount None = Unit {0}
 WrittenCount (Some count) = count < 18446744073709551616
 
+-- no parameter has type void, which says that there is none
+abbrev pub IsNoVoid : Type89 → Type 0
+IsNoVoid (Based false Void) = ⊥
+IsNoVoid type = Unit {0}
+
+-- where there may be more arguments there is a parameter before them
+abbrev pub HasFirst : Types89 → (is_variadic : Bool) → Type 0
+HasFirst no_types true = ⊥
+HasFirst types is_variadic = Unit {0}
+
 abbrev mutual
   pub WrittenType : Type89 → Type 0
   WrittenType (Based is_const base) = WrittenBase base
   WrittenType (Pointer is_const to) = WrittenType to
   WrittenType (Array count of) = WrittenCount count × WrittenType of
-  WrittenType (FunctionType result parameters is_variadic) = WrittenType result × WrittenTypes parameters
+  WrittenType (FunctionType result parameters is_variadic) = WrittenType result × WrittenTypes parameters × HasFirst parameters is_variadic
 
   pub WrittenTypes : Types89 → Type 0
   WrittenTypes no_types = Unit {0}
-  WrittenTypes (more_types first others) = WrittenType first × WrittenTypes others
+  WrittenTypes (more_types first others) = WrittenType first × IsNoVoid first × WrittenTypes others
 
 abbrev mutual
   pub WrittenExpr : text.Expr → Type 0
@@ -115,7 +125,7 @@ WrittenStructures (text.Members name first others ∷ structures) = IsName name 
 abbrev pub WrittenFunctions : List text.Function → Type 0
 WrittenFunctions [] = Unit {0}
 WrittenFunctions (f ∷ fs) =
-    WrittenType f.result × IsName f.name × WrittenDeclarations f.parameters × WrittenDeclarations f.objects × WrittenStats f.body × WrittenFunctions fs
+    WrittenType f.result × IsName f.name × (WrittenDeclarations f.parameters × HasFirst (text.types_of f.parameters) f.is_variadic) × WrittenDeclarations f.objects × WrittenStats f.body × WrittenFunctions fs
 
 pub record Written (program : text.Program) : Type 0 where
   pub structures : WrittenStructures program.structures

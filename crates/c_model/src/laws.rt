@@ -44,3 +44,8 @@ pub fn overflow_is_undefined()
     ensures unit { IsVerdictOn overflow_text (IsCore overflow_core) }
     ensures run { (world : List ℤ) → run23 1 overflow_core (codes "main") [] world ≡ record { events = []; moves = []; ending = Undefined Cause.Overflow (Some (at 36 8)) } }
 {}
+
+/// A text reads as one program at most.
+pub fn one_reading()
+    ensures { (text : List ℕ) (program other : Program) → Reads89 text program → Reads89 text other → program ≡ other }
+{}

@@ -281,8 +281,8 @@ module _ (e : Expr) (place : Place) where
   typed = record {
     written = record {
       structures = tt;
-      outers = ((tt, tt), main_is_name, tt, tt);
-      functions = (tt, main_is_name, tt, tt, (written e, tt), tt);
+      outers = ((tt, tt, tt), main_is_name, tt, tt);
+      functions = (tt, main_is_name, (tt, tt), tt, (written e, tt), tt);
     };
     types = rw (has _ e, is_written_int _ e) refl;
   }
