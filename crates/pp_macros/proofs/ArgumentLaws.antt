@@ -3,8 +3,8 @@ use Rattle.std.proofs.Common.{◌≡◌, ℕ, suc, ◌+◌, ◌-◌, ◌<◌, Bo
 use Rattle.cake_base.specs.declared.places.Place.{Place}
 use Rattle.c_model.specs.Macros.{spells}
 use Rattle.c_model.specs.MacroDefinitions.{COMMA}
-use Rattle.c_model.specs.ReplacementLists.{RIGHT, deeper}
-use Rattle.c_model.specs.MacroArguments.{Painted, Run, Inside, in_front, inside, at_place, placed, onto, parts}
+use Rattle.c_model.specs.ReplacementLists.{deeper}
+use Rattle.c_model.specs.MacroArguments.{Painted, Run, Inside, in_front, at_place, placed, onto, parts}
 
 abbrev pub all_in_front : Run → Option Inside → Option Inside
 all_in_front xs None = None

@@ -1,16 +1,23 @@
 -- A call that goes on, taken apart and put together again.
-use Rattle.std.proofs.Common.{◌≡◌, ℕ, zero, suc, ◌+◌, ◌-◌, ◌*◌, ◌<◌, ◌≤◌, Bool, true, false, max, List, [], ◌∷◌, ◌++◌, length, map, drop, Option, Some, None, Result, Ok, Err, refl, ap, subst, sym, ◌∙◌, arith, length-append}
+use Rattle.std.proofs.Common.{◌≡◌, ℕ, ◌+◌, ◌<◌, ◌≤◌, true, max, List, [], ◌∷◌, ◌++◌, length, map, drop, Option, Some, None, Ok, Err, refl, ap, subst, sym, ◌∙◌, arith, length-append, append_assoc, slice_get, inl, inr}
+use Rattle.cake_base.specs.declared.places.Place.{Place}
 use Rattle.c_model.specs.PpTokens.{PpToken}
 use Rattle.c_model.specs.Macros.{Macro, Macros}
 use Rattle.std.specs.Option.{is_some, MatchOption}
 use Rattle.c_model.specs.HideSets.{common, with_rank}
-use Rattle.c_model.specs.MacroArguments.{Painted, Run, Inside, inside, placed, arguments}
-use Rattle.c_model.specs.Substitution.{Argument, Use, unreplaced, uses, written, with_replaced, variable_rank, wanted, substituted}
-use Rattle.c_model.specs.Expansion.{Answer, Stop, MADE, Call, Fills}
+use Rattle.c_model.specs.MacroArguments.{Painted, Run, inside, placed, arguments}
+use Rattle.c_model.specs.Substitution.{Argument, Use, unreplaced, uses, written, with_replaced, variable_rank, substituted}
+use Rattle.cake_base.specs.declared.rules.Fault.{Fault}
+use Rattle.c_model.specs.Expansion.{Answer, Stop, broken, passed, MADE, Expands, Fills}
+use Rattle.c_model.specs.ExpansionRules.{object_call, Expands-object, Expands-call, Expands-open, Expands-count}
+use Rattle.c_model.specs.ExpansionTotal.{call-length, arguments-weight}
 use Rattle.pp_macros.specs.declared.errors.MacroError.{MacroError}
 use Rattle.pp_macros.specs.declared.errors.MacroError.TheVariants as macro_error
-use Rattle.pp_macros.specs.Machine.{Waiting, Called, from_wanted, Gives, GoesOn, Finishes, Stops, arguments_weight, waiting_weight, all_weight, left}
-use Rattle.pp_macros.proofs.MachineLaws.{asking, asks, goes_body, goes_stopped, wanted-first, wanted-unreplaced, lighter_by}
+use Rattle.pp_macros.specs.Machine.{Waiting, Called, CallParts, Shown, Refused, Begins, Expanded, from_wanted, Gives, GoesOn, Finishes, Stops, waiting_weight, all_weight, left}
+use Rattle.c_model.specs.Pasting.{fresh}
+use Rattle.c_model.specs.ExpansionFunction.{expand-only}
+use Rattle.pp_macros.proofs.HeadingLaws.{drop-get}
+use Rattle.pp_macros.proofs.MachineLaws.{all_done, resumed, lighter, with_front-nil, Ends-stopped, unreplaced-weight, asking, asks, goes_body, goes_stopped, wanted-first, wanted-unreplaced, lighter_by}
 
 pub asking-lighter : (f : Waiting) (fs : List Waiting) (u : Use) (us : List Use) → from_wanted f.args (variable_rank f.call.def) f.uses ≡ u ∷ us →
     length (written f.args u.rank) + all_weight (asking f u us ∷ fs) < waiting_weight f + all_weight fs
@@ -130,21 +137,137 @@ pub drop-popped : (o : Option Painted) (old new : Run) → MatchOption o ((old �
 drop-popped None old new h = h.1 ∙ ap (drop 1) (sym h.0)
 drop-popped (Some p) old new h = ap (drop 1) (sym h)
 
-pub Called-parts : (p : Painted) (n : ℕ) (m : Macro) (ps out : Run) (popped : Option Painted) (front rest : Run) (run : Run) (close : Painted) (o : Option (List Run)) (runs : List Run) (name : PpToken) (both all : List ℕ) (us us' : List Use) (args : List Argument) →
-    MatchOption popped ((ps ≡ []) × (front ≡ [])) (λ q. ps ≡ q ∷ front) →
-    placed p.tok.place (inside 0 front) ≡ Some (record { tokens = run; close = close; rest = rest }) → o ≡ arguments m run → o ≡ Some runs →
-    name ≡ p.tok → both ≡ common p.hides close.hides → all ≡ with_rank both n → us ≡ us' → us' ≡ uses m → args ≡ map unreplaced runs →
-    Called p n m ps out (waiting name all m rest us args 0 out)
-Called-parts p n m ps out popped front rest run close o runs name both all us us' args pop at split is named meets adds one two made =
+pub CallParts-are : (p : Painted) (m : Macro) (ps front rest : Run) (popped : Option Painted) (run : Run) (close : Painted) (o : Option (List Run)) (runs : List Run) (found : Option (Run × Painted)) (place : Place) →
+    MatchOption popped ((ps ≡ []) × (front ≡ [])) (λ q. ps ≡ q ∷ front) → found ≡ Some (run, close) → place ≡ p.tok.place →
+    MatchOption found (placed place (inside 0 front) ≡ None) (λ r. placed place (inside 0 front) ≡ Some (record { tokens = r.0; close = r.1; rest = rest })) →
+    o ≡ arguments m run → o ≡ Some runs → CallParts p m ps runs close rest
+CallParts-are p m ps front rest popped run close o runs found place pop is here at split counts =
     let d = drop-popped popped ps front pop in
-    let i : Inside = record { tokens = run; close = close; rest = rest } in
+    let a = subst (λ (z : Option (Run × Painted)). MatchOption z (placed place (inside 0 front) ≡ None) (λ r. placed place (inside 0 front) ≡ Some (record { tokens = r.0; close = r.1; rest = rest }))) is at in
+    record { tokens = run; found = ap (λ z. placed z (inside 0 (drop 1 ps))) (sym here) ∙ ap (λ (z : Run). placed place (inside 0 z)) (sym d) ∙ a; counted = sym split ∙ counts }
+
+pub Called-is : (p : Painted) (n : ℕ) (m : Macro) (ps out : Run) (runs : List Run) (close : Painted) (rest : Run) (name : PpToken) (hides : List ℕ) (us : List Use) (args : List Argument) (w : Waiting) → CallParts p m ps runs close rest →
+    w ≡ waiting name hides m rest us args 0 out → name ≡ p.tok → hides ≡ with_rank (common p.hides close.hides) n → us ≡ uses m → args ≡ map unreplaced runs → Called p n m ps out w
+Called-is p n m ps out runs close rest name hides us args w c is named hid asked made =
     record {
-      i = i;
+      i = record { tokens = c.tokens; close = close; rest = rest };
       runs = runs;
-      found = ap (λ (z : Run). placed p.tok.place (inside 0 z)) (sym d) ∙ at;
-      counted = sym split ∙ is;
-      is = ap (λ (z : PpToken). waiting z all m rest us args 0 out) named
-          ∙ ap (λ (z : List ℕ). waiting p.tok z m rest us args 0 out) (adds ∙ ap (λ z. with_rank z n) meets)
-          ∙ ap (λ (z : List Use). waiting p.tok (with_rank (common p.hides close.hides) n) m rest z args 0 out) (one ∙ two)
+      found = c.found;
+      counted = c.counted;
+      is = is ∙ ap (λ (z : PpToken). waiting z hides m rest us args 0 out) named
+          ∙ ap (λ (z : List ℕ). waiting p.tok z m rest us args 0 out) hid
+          ∙ ap (λ (z : List Use). waiting p.tok (with_rank (common p.hides close.hides) n) m rest z args 0 out) asked
           ∙ ap (λ (z : List Argument). waiting p.tok (with_rank (common p.hides close.hides) n) m rest (uses m) z 0 out) made;
     }
+
+-- ---- a token that is replaced
+
+pub begins_object : (table : Macros) (p : Painted) (ps out : Run) (n : ℕ) (m : Macro) (fs : List Waiting) (made : ℕ) (w : Waiting) (a : Answer) → Shown table p ps n m → m.params ≡ None →
+    w ≡ record { call = object_call p n m ps; uses = []; args = []; rank = 0; out = out } → GoesOn table w fs made a → Gives table fs (p ∷ ps) out made a
+begins_object table p ps out n m fs made w a s kind is g =
+    let h = subst (λ (z : Waiting). GoesOn table z fs made a) is g in
+    record { inner = h.inner; expands = Expands-object table p ps made n m h.inner s.known s.free kind h.fills; ends = h.ends }
+
+pub begins_function : (table : Macros) (p : Painted) (ps out : Run) (n : ℕ) (m : Macro) (names : List (List ℕ)) (fs : List Waiting) (made : ℕ) (w : Waiting) (a : Answer) → Shown table p ps n m → m.params ≡ Some names →
+    Called p n m ps out w → GoesOn table w fs made a → Gives table fs (p ∷ ps) out made a
+begins_function table p ps out n m names fs made w a s kind c g =
+    let h = subst (λ (z : Waiting). GoesOn table z fs made a) c.is g in
+    record { inner = h.inner; expands = Expands-call table p ps made n m names c.i c.runs h.inner s.known s.free kind (s.follows names kind) c.found c.counted h.fills; ends = h.ends }
+
+pub refused : (table : Macros) (p : Painted) (ps out : Run) (n : ℕ) (m : Macro) (names : List (List ℕ)) (fs : List Waiting) (made : ℕ) (e : MacroError) → Shown table p ps n m → m.params ≡ Some names →
+    Refused p m ps e → Stops (Gives table fs (p ∷ ps) out made) e made
+refused table p ps out n m names fs made (macro_error.Fault f) s kind (inl h) =
+    let x = Expands-open table p ps made n m names s.known s.free kind (s.follows names kind) h.0 in
+    subst (λ (z : Fault). Gives table fs (p ∷ ps) out made (Err (broken z, made))) (sym h.1) (record { inner = _; expands = x; ends = Ends-stopped table fs _ })
+refused table p ps out n m names fs made (macro_error.Fault f) s kind (inr h) =
+    let x = Expands-count table p ps made n m names h.0 s.known s.free kind (s.follows names kind) h.1 h.2 in
+    subst (λ (z : Fault). Gives table fs (p ∷ ps) out made (Err (broken z, made))) (sym h.3) (record { inner = _; expands = x; ends = Ends-stopped table fs _ })
+refused table p ps out n m names fs made (macro_error.Limit l) s kind h = absurd h
+refused table p ps out n m names fs made macro_error.NoMemory s kind h = tt
+
+pub object-begins : (table : Macros) (p : Painted) (ps out : Run) (n : ℕ) (m : Macro) (w : Waiting) → Shown table p ps n m → m.params ≡ None →
+    w ≡ record { call = object_call p n m ps; uses = []; args = []; rank = 0; out = out } → Begins table p ps out w
+object-begins table p ps out n m w s kind is = (λ fs made a g. begins_object table p ps out n m fs made w a s kind is g, let e = ap waiting_weight is in omega (arith, e))
+
+pub function-begins : (table : Macros) (p : Painted) (ps out : Run) (n : ℕ) (m : Macro) (names : List (List ℕ)) (w : Waiting) → Shown table p ps n m → m.params ≡ Some names → Called p n m ps out w → Begins table p ps out w
+function-begins table p ps out n m names w s kind c = (
+  λ fs made a g. begins_function table p ps out n m names fs made w a s kind c g,
+  let e = ap waiting_weight c.is in let l = call-length p.tok.place ps c.i (s.follows names kind) c.found in let k = arguments-weight m c.i.tokens c.runs c.counted in let q = unreplaced-weight c.runs in
+      omega (arith, e, l, k, q),
+)
+
+-- ---- steps
+
+pub next-gives : (table : Macros) (p : Painted) (ps out : Run) (w : Waiting) (fs calls : List Waiting) (pending after : Run) (made more : ℕ) → Begins table p ps out w →
+    ((a : Answer) → Gives table calls pending after more a → GoesOn table w fs made a) → (a : Answer) → Gives table calls pending after more a → Gives table fs (p ∷ ps) out made a
+next-gives table p ps out w fs calls pending after made more b go a g = b.0 fs made a (go a g)
+
+pub next-stops : (table : Macros) (p : Painted) (ps out : Run) (w : Waiting) (fs : List Waiting) (made more : ℕ) (e : MacroError) → Begins table p ps out w →
+    Stops (GoesOn table w fs made) e more → Stops (Gives table fs (p ∷ ps) out made) e more
+next-stops table p ps out w fs made more e b h = Stops-map (GoesOn table w fs made) (Gives table fs (p ∷ ps) out made) e more (λ x g. b.0 fs made (Err x) g) h
+
+pub resumed-stops : (table : Macros) (f : Waiting) (fs : List Waiting) (out : Run) (made more : ℕ) (e : MacroError) →
+    Stops (GoesOn table (record f { args = with_replaced f.args f.rank out }) fs made) e more → Stops (Gives table (f ∷ fs) [] out made) e more
+resumed-stops table f fs out made more e h = Stops-map (GoesOn table (record f { args = with_replaced f.args f.rank out }) fs made) (Gives table (f ∷ fs) [] out made) e more (λ x g. resumed table f fs out made (Err x) g) h
+
+pub resumed-shrinks : (f : Waiting) (fs : List Waiting) (out : Run) (made more : ℕ) (n : ℕ) → left more n < left made (waiting_weight (record f { args = with_replaced f.args f.rank out }) + all_weight fs) → left more n < left made (0 + (waiting_weight f + all_weight fs))
+resumed-shrinks f fs out made more n h = let l = lighter f.args f.rank out in omega (arith, h, l)
+
+pub whole : (table : Macros) (run : Run) (made : ℕ) (a : Answer) → Gives table [] run [] made a → Expands table run made a
+whole table run made a g = subst (λ (z : Answer). Expands table run made z) (sym (with_front-nil g.inner) ∙ sym g.ends) g.expands
+
+pub whole-stops : (table : Macros) (run : Run) (made more : ℕ) (e : MacroError) → Stops (Gives table [] run [] made) e more → Stops (Expands table run made) e more
+whole-stops table run made more e h = Stops-map (Gives table [] run [] made) (Expands table run made) e more (λ x g. whole table run made (Err x) g) h
+
+pub done_at : (table : Macros) (calls : List Waiting) (pending out : Run) (made : ℕ) → calls ≡ [] → pending ≡ [] → Gives table calls pending out made (Ok (out, made))
+done_at table calls pending out made p q =
+    subst (λ (z : List Waiting). Gives table z pending out made (Ok (out, made))) (sym p) (subst (λ (z : Run). Gives table [] z out made (Ok (out, made))) (sym q) (all_done table out made))
+
+pub step-stops : (table : Macros) (calls fs : List Waiting) (f w : Waiting) (pending out : Run) (made more : ℕ) (e : MacroError) → pending ≡ [] → calls ≡ f ∷ fs → w ≡ record f { args = with_replaced f.args f.rank out } →
+    Stops (GoesOn table w fs made) e more → Stops (Gives table calls pending out made) e more
+step-stops table calls fs f w pending out made more e p q is h =
+    let one = subst (λ (z : Waiting). Stops (GoesOn table z fs made) e more) is h in
+    let two = resumed-stops table f fs out made more e one in
+    subst (λ (z : List Waiting). Stops (Gives table z pending out made) e more) (sym q) (subst (λ (z : Run). Stops (Gives table (f ∷ fs) z out made) e more) (sym p) two)
+
+pub step-gives : (table : Macros) (calls fs : List Waiting) (f w : Waiting) (pending out : Run) (made : ℕ) (a : Answer) → pending ≡ [] → calls ≡ f ∷ fs → w ≡ record f { args = with_replaced f.args f.rank out } →
+    GoesOn table w fs made a → Gives table calls pending out made a
+step-gives table calls fs f w pending out made a p q is g =
+    let one = subst (λ (z : Waiting). GoesOn table z fs made a) is g in
+    let two = resumed table f fs out made a one in
+    subst (λ (z : List Waiting). Gives table z pending out made a) (sym q) (subst (λ (z : Run). Gives table (f ∷ fs) z out made a) (sym p) two)
+
+pub step-shrinks : (calls fs : List Waiting) (f w : Waiting) (pending out : Run) (made more n : ℕ) → pending ≡ [] → calls ≡ f ∷ fs → w ≡ record f { args = with_replaced f.args f.rank out } →
+    left more n < left made (waiting_weight w + all_weight fs) → left more n < left made (length pending + all_weight calls)
+step-shrinks calls fs f w pending out made more n p q is h =
+    let l = lighter f.args f.rank out in
+    let e = ap waiting_weight is in
+    let c = ap all_weight q in
+    let m : length pending ≡ 0 = ap length p in
+    omega (arith, h, l, e, c, m)
+
+-- ---- the call
+
+pub expanded-ok : (table : Macros) (toks : List PpToken) (made more : ℕ) (run done : Run) (list : List PpToken) → run ≡ map fresh toks → Expands table run made (Ok (done, more)) → list ≡ map (λ p. p.tok) done → Expanded table toks made (Ok list) more
+expanded-ok table toks made more run done list is x l =
+    (done, sym (expand-only table (map fresh toks) made (Ok (done, more)) (subst (λ (z : Run). Expands table z made (Ok (done, more))) is x)), l)
+
+pub expanded-err : (table : Macros) (toks : List PpToken) (made more : ℕ) (run : Run) (e : MacroError) → run ≡ map fresh toks → Stops (Expands table run made) e more → Expanded table toks made (Err e) more
+expanded-err table toks made more run (macro_error.Fault f) is x = sym (expand-only table (map fresh toks) made (Err (broken f, more)) (subst (λ (z : Run). Expands table z made (Err (broken f, more))) is x))
+expanded-err table toks made more run (macro_error.Limit l) is x = sym (expand-only table (map fresh toks) made (Err (passed l, more)) (subst (λ (z : Run). Expands table z made (Err (passed l, more))) is x))
+expanded-err table toks made more run macro_error.NoMemory is x = tt
+
+pub fresh-step : (toks : List PpToken) (at : ℕ) (t copy : PpToken) (p : Painted) (run run' X : Run) → Some t ≡ slice_get toks at → copy ≡ t → p ≡ fresh copy → run' ≡ run ++ p ∷ [] → run ++ map fresh (drop at toks) ≡ X → run' ++ map fresh (drop (at + 1) toks) ≡ X
+fresh-step toks at t copy p run run' X h same is pushed inv =
+    ap (λ (z : Run). z ++ map fresh (drop (at + 1) toks)) (pushed ∙ ap (λ (z : Painted). run ++ z ∷ []) (is ∙ ap fresh same))
+    ∙ append_assoc run (fresh t ∷ []) (map fresh (drop (at + 1) toks)) ∙ ap (λ (z : List PpToken). run ++ map fresh z) (sym (drop-get toks at t h)) ∙ inv
+
+pub run-done : (table : Macros) (run : Run) (made now more : ℕ) (out : Run) (calls0 calls : List Waiting) (pending0 out0 pending before : Run) →
+    ((a : Answer) → Gives table calls pending before now a → Gives table calls0 pending0 out0 made a) → calls0 ≡ [] → pending0 ≡ run → out0 ≡ [] → more ≡ now → Gives table calls pending before now (Ok (out, now)) →
+    Expands table run made (Ok (out, more))
+run-done table run made now more out calls0 calls pending0 out0 pending before inv p q r same g =
+    let one = inv (Ok (out, now)) g in
+    let two = subst (λ (z : List Waiting). Gives table z pending0 out0 made (Ok (out, now))) p one in
+    let three = subst (λ (z : Run). Gives table [] z out0 made (Ok (out, now))) q two in
+    let four = subst (λ (z : Run). Gives table [] run z made (Ok (out, now))) r three in
+    whole table run made (Ok (out, more)) (subst (λ (n : ℕ). Gives table [] run [] made (Ok (out, n))) (sym same) four)

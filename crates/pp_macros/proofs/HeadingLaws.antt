@@ -1,5 +1,5 @@
 -- The reading of parameters, one token after another.
-use Rattle.std.proofs.Common.{◌≡◌, ℕ, zero, suc, ◌+◌, ◌<◌, ◌≤◌, Bool, true, false, List, [], ◌∷◌, ◌++◌, map, length, drop, Option, Some, None, refl, ap, sym, ◌∙◌, arith, cond, not, ◌||◌, append_assoc, append-nil, slice_get, get_or}
+use Rattle.std.proofs.Common.{◌≡◌, ℕ, zero, suc, ◌+◌, ◌≤◌, Bool, true, false, List, [], ◌∷◌, ◌++◌, length, drop, Option, Some, None, refl, ap, sym, ◌∙◌, arith, cond, not, ◌||◌, append_assoc, append-nil, slice_get}
 use Rattle.std.specs.Option.{is_some}
 use Rattle.c_model.specs.PpTokens.{PpToken}
 use Rattle.c_model.specs.declared.macros.Expected.{Expected}

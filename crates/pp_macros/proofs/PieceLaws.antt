@@ -1,5 +1,5 @@
 -- The reading of a replacement list, one token after another.
-use Rattle.std.proofs.Common.{◌≡◌, ℕ, zero, suc, ◌+◌, ◌<◌, ◌≤◌, Bool, true, false, List, [], ◌∷◌, ◌++◌, map, length, drop, Option, Some, None, refl, ap, sym, ◌∙◌, arith, cond, not, ◌||◌, ◌&&◌, append_assoc, append-nil, slice_get}
+use Rattle.std.proofs.Common.{◌≡◌, ℕ, zero, suc, ◌+◌, Bool, true, false, List, [], ◌∷◌, ◌++◌, drop, Some, refl, ap, sym, ◌∙◌, not, ◌||◌, ◌&&◌, append_assoc, append-nil, slice_get}
 use Rattle.c_model.specs.PpTokens.{PpToken}
 use Rattle.c_model.specs.declared.macros.Role.{Role}
 use Rattle.c_model.specs.Macros.{Piece, spells}

@@ -1,10 +1,10 @@
 -- The table as contracts see it, of entries whose keys have a text.
-use Rattle.std.proofs.Common.{◌≡◌, ℕ, zero, suc, ◌+◌, ◌<◌, Bool, true, false, List, [], ◌∷◌, ◌++◌, map, length, drop, Option, Some, None, refl, ap, sym, ◌∙◌, arith, cond, not, nat_lt, ◌||◌, ◌&&◌, slice_get, nat_eq, Ok, Err}
-use Rattle.std.specs.List.{position, list_any}
+use Rattle.std.proofs.Common.{◌≡◌, ℕ, zero, suc, ◌+◌, ◌<◌, Bool, true, false, List, [], ◌∷◌, ◌++◌, map, length, drop, Option, Some, None, refl, ap, sym, ◌∙◌, arith, cond, not, ◌||◌, ◌&&◌, slice_get, nat_eq, Ok}
+use Rattle.std.specs.List.{position}
 use Rattle.std.specs.Option.{option_map, is_some}
 use Rattle.std.specs.Map.{keys_of, lookup as lookup_by, remove_entry}
 use Rattle.std.proofs.lemmas.List.{map-append}
-use Rattle.c_model.specs.Macros.{Macro, Macros, same_text, found, ranked, one_later, defines, without, same_names, with_file, with_macro, same_definition, clashes, file_name}
+use Rattle.c_model.specs.Macros.{Macro, Macros, same_text, found, ranked, one_later, defines, without, same_names, with_file, same_definition, clashes, file_name}
 use Rattle.indexmap.specs.IndexMap.{insert_entry}
 use Rattle.pp_macros.specs.Names.{same_at}
 use Rattle.pp_macros.specs.Answers.{Defines}

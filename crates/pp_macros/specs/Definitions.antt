@@ -1,5 +1,5 @@
 -- What the steps of the reading of a definition tell.
-use Rattle.std.specs.Prelude.{◌≡◌, ℕ, Bool, true, false, List, [], ◌∷◌, ◌++◌, if◌then◌else◌, Option, Some, None}
+use Rattle.std.specs.Prelude.{◌≡◌, ℕ, List, [], ◌∷◌, ◌++◌, if◌then◌else◌, Option, Some, None}
 use Rattle.c_model.specs.declared.macros.Expected.{Expected}
 use Rattle.c_model.specs.declared.macros.Expected.TheVariants.{Next}
 use Rattle.c_model.specs.PpTokens.{PpToken}

@@ -1,5 +1,5 @@
 -- A replacement list, put together token by token.
-use Rattle.std.specs.Prelude.{ℕ, Bool, true, false, List, [], ◌∷◌, Option, Some, None}
+use Rattle.std.specs.Prelude.{true, false, [], ◌∷◌, Option, Some, None}
 use Rattle.c_model.specs.declared.macros.Role.{Role}
 use Rattle.c_model.specs.declared.macros.Role.TheVariants.{Plain, Paste, Replaced, Written, Quoted, Operand, Optional, QuotedOptional, OptionalOperand, Open, Close, File, Line}
 use Rattle.c_model.specs.PpTokens.{PpToken}

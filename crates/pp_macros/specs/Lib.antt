@@ -3,3 +3,4 @@ pub mod Definitions
 pub mod Answers
 pub mod Filling
 pub mod Machine
+pub mod Progress

@@ -1,5 +1,5 @@
 -- The state of a replacement: a list that is worked through, and the calls that wait for it.
-use Rattle.std.specs.Prelude.{◌≡◌, ℕ, ◌+◌, ◌-◌, ◌*◌, ◌<◌, ◌≤◌, Bool, true, false, max, if◌then◌else◌, List, [], ◌∷◌, ◌++◌, length, map, drop, ◌⊎◌, Option, Some, None, Result, Ok, Err}
+use Rattle.std.specs.Prelude.{◌≡◌, ℕ, ◌+◌, ◌-◌, ◌*◌, ◌<◌, ◌≤◌, true, false, max, if◌then◌else◌, List, [], ◌∷◌, length, map, drop, ◌⊎◌, Some, None, Result, Ok, Err}
 use Rattle.cake_base.specs.declared.places.Place.{Place}
 use Rattle.c_model.specs.PpTokens.{PpToken}
 use Rattle.c_model.specs.HideSets.{holds}
@@ -7,7 +7,7 @@ use Rattle.c_model.specs.Macros.{Macro, Macros, ranked}
 use Rattle.c_model.specs.MacroArguments.{Painted, Run, Inside, inside, placed, arguments, opens}
 use Rattle.c_model.specs.Pasting.{fresh}
 use Rattle.c_model.specs.Substitution.{Argument, Use, unreplaced, uses, with_replaced, wanted, waits, substituted}
-use Rattle.c_model.specs.Expansion.{Answer, Stop, broken, passed, MADE, Call, Expands, Fills}
+use Rattle.c_model.specs.Expansion.{Answer, broken, passed, MADE, Call, Expands, Fills}
 use Rattle.c_model.specs.ExpansionRules.{with_front, function_call}
 use Rattle.c_model.specs.ExpansionFunction.{expand}
 use Rattle.pp_macros.specs.declared.errors.MacroError.{MacroError}
@@ -111,3 +111,18 @@ Refused p m ps (macro_error.Fault f) =
     ⊎ ((i : Inside) × (placed p.tok.place (inside 0 (drop 1 ps)) ≡ Some i) × (arguments m i.tokens ≡ None) × (f ≡ rule_at p.tok.place 6))
 Refused p m ps (macro_error.Limit l) = ⊥
 Refused p m ps macro_error.NoMemory = Unit {0}
+
+-- the arguments of a call, the parenthesis that closes it, and what follows
+pub record CallParts (p : Painted) (m : Macro) (ps : Run) (runs : List Run) (close : Painted) (rest : Run) : Type 0 where
+  pub tokens : Run
+  pub found : placed p.tok.place (inside 0 (drop 1 ps)) ≡ Some (record { tokens = tokens; close = close; rest = rest })
+  pub counted : arguments m tokens ≡ Some runs
+
+-- the call that a token begins
+abbrev pub Begins : Macros → Painted → Run → Run → Waiting → Type 0
+Begins table p ps out w = ((fs : List Waiting) (made : ℕ) (a : Answer) → GoesOn table w fs made a → Gives table fs (p ∷ ps) out made a) × (waiting_weight w ≤ length ps + 1)
+
+-- what replacement gives, or why it ends
+abbrev pub Answers : Macros → Run → ℕ → Result Run MacroError → ℕ → Type 0
+Answers table run made (Ok v) more = Expands table run made (Ok (v, more))
+Answers table run made (Err e) more = Stops (Expands table run made) e more

@@ -18,4 +18,8 @@ mod table;
 
 pub use definition::{MacroDef, read_macro};
 pub use errors::MacroError;
+pub use expansion::{Work, expand};
 pub use table::MacroTable;
+
+#[cfg(test)]
+mod tests;

@@ -1,8 +1,7 @@
-use Rattle.std.proofs.Common.{◌≡◌, ◌∙◌, ap, sym, refl, List, ℕ, []}
+use Rattle.std.proofs.Common.{◌∙◌, ap, refl}
 use Rattle.std.proofs.lemmas.Result.{err_from_is_err_and}
 use Rattle.c_model.specs.MacroDefinitions.{names_of}
-use Rattle.pp_macros.specs.Machine.{Waiting}
-use Rattle.pp_macros.proofs.GoOnLaws.{Asked, Asked-gives, Asked-shrinks, Asked-parts, Done, Done-gives, Done-shrinks, Done-parts, Stopped-parts}
+use Rattle.pp_macros.proofs.GoOnLaws.{Asked-gives, Asked-shrinks, Asked-parts, Done-gives, Done-shrinks, Done-parts, Stopped-parts}
 use Rattle.std.proofs.Common.{length}
 use Rattle.pp_macros.proofs.expansion.go_on.Goals as goal
 

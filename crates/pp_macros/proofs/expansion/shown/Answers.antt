@@ -1,4 +1,4 @@
-use Rattle.std.proofs.Common.{◌≡◌, ◌∙◌, ap, sym, None, Some, true, false}
+use Rattle.std.proofs.Common.{◌≡◌, ◌∙◌, ap, sym, Some, true, false}
 use Rattle.std.specs.Option.{is_some}
 use Rattle.c_model.specs.HideSets.{holds}
 use Rattle.c_model.specs.Macros.{ranked}

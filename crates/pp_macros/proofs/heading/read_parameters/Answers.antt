@@ -1,8 +1,5 @@
-use Rattle.std.proofs.Common.{◌≡◌, ◌∙◌, ap, sym, not, is_some, ℕ, List, map, Bool, true, false, ◌++◌, [], ◌∷◌, drop, cond}
-use Rattle.c_model.specs.declared.macros.Expected.{Expected}
-use Rattle.c_model.specs.MacroDefinitions.{parameters}
+use Rattle.std.proofs.Common.{◌≡◌, ◌∙◌, ap, sym, is_some, ℕ, List, true, false, ◌++◌, [], ◌∷◌, cond}
 use Rattle.c_model.specs.ReplacementLists.{rank}
-use Rattle.pp_macros.specs.Definitions.{after_names}
 use Rattle.pp_macros.proofs.HeadingLaws.{met-new, met-again, met-onward, met-end, met-wrong, not-new, is-new, met-goes}
 use Rattle.pp_macros.proofs.heading.read_parameters.Goals as goal
 use Rattle.pp_macros.proofs.heading.read_parameters.Goals.{in-Name+in_ok-add-in-Name+else-not-branch, in-Onward}

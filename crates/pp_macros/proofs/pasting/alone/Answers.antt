@@ -1,5 +1,5 @@
-use Rattle.std.proofs.Common.{◌≡◌, ◌∙◌, ap, sym, length}
-use Rattle.pp_macros.proofs.PastingLaws.{alone-other, alone-one, alone-no}
+use Rattle.std.proofs.Common.{◌∙◌, sym}
+use Rattle.pp_macros.proofs.PastingLaws.{alone-other, alone-one}
 use Rattle.pp_macros.proofs.pasting.alone.Goals as goal
 
 pub returns-then-count-ne1 : goal.returns-then-count-ne1

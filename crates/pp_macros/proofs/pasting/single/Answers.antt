@@ -1,8 +1,6 @@
-use Rattle.std.proofs.Common.{◌≡◌, ◌∙◌, ap, sym, None, Err, Ok, refl}
-use Rattle.cake_base.specs.declared.rules.Fault.{Fault}
+use Rattle.std.proofs.Common.{◌≡◌, ◌∙◌, ap, sym, Err}
 use Rattle.c_model.specs.Pasting.{single, alone}
 use Rattle.c_model.specs.PpTokens.{tokens_of}
-use Rattle.c_tokens.specs.Answers.{Answers}
 use Rattle.pp_macros.proofs.pasting.single.Goals as goal
 
 pub returns-in-Err-Fault : goal.returns-in-Err-Fault

@@ -1,6 +1,5 @@
-use Rattle.std.proofs.Common.{◌≡◌, ◌∙◌, ap, sym, arith, ◌++◌, ◌∷◌, [], List}
+use Rattle.std.proofs.Common.{◌∙◌, ap, arith, ◌++◌, ◌∷◌, []}
 use Rattle.c_model.specs.PpTokens.{PpToken}
-use Rattle.c_model.specs.Macros.{Piece}
 use Rattle.c_model.specs.ReplacementLists.{role_after}
 use Rattle.c_model.specs.MacroDefinitions.{signature}
 use Rattle.pp_macros.proofs.PieceLaws.{pieces-step}

@@ -1,4 +1,4 @@
-use Rattle.std.proofs.Common.{◌≡◌, ◌++◌, ◌+◌, ◌≤◌, drop, length}
+use Rattle.std.proofs.Common.{◌≡◌, ◌++◌, ◌≤◌, drop}
 use Rattle.c_model.specs.MacroDefinitions.{signature}
 use Rattle.c_model.specs.ReplacementLists.{pieces, pieces_from}
 use Rattle.pp_macros.proofs.pieces.read_pieces.Given as goal

@@ -1,4 +1,4 @@
-use Rattle.std.proofs.Common.{◌≡◌, ◌∙◌, ap, sym, not, ◌&&◌, true, false}
+use Rattle.std.proofs.Common.{◌∙◌, ap, not, ◌&&◌}
 use Rattle.c_model.specs.Macros.{spells}
 use Rattle.c_model.specs.MacroDefinitions.{signature}
 use Rattle.c_model.specs.ReplacementLists.{HASH, quotable}

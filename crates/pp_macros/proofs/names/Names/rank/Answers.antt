@@ -1,4 +1,4 @@
-use Rattle.std.proofs.Common.{◌≡◌, ◌∙◌, ap, sym}
+use Rattle.std.proofs.Common.{◌∙◌, ap}
 use Rattle.c_model.specs.ReplacementLists.{rank}
 use Rattle.pp_macros.proofs.NamesLaws.{rank-position}
 use Rattle.pp_macros.proofs.names.Names.rank.Goals as goal

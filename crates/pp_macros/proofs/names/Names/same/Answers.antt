@@ -1,4 +1,4 @@
-use Rattle.std.proofs.Common.{◌≡◌, ◌<◌, length, arith}
+use Rattle.std.proofs.Common.{◌<◌, length, arith}
 use Rattle.pp_macros.proofs.TableLaws.{names-differ, names-agree}
 use Rattle.pp_macros.proofs.names.Names.same.Goals as goal
 

@@ -1,6 +1,6 @@
-use Rattle.std.proofs.Common.{◌≡◌, ◌∙◌, ap, sym, Option, Some, None, List, ℕ, ◌++◌, ◌∷◌, []}
+use Rattle.std.proofs.Common.{◌≡◌, ◌∙◌, ap, None, List, ℕ, ◌++◌, ◌∷◌, []}
 use Rattle.std.specs.Map.{lookup as lookup_by}
-use Rattle.c_model.specs.Macros.{Macros, Macro, found, same_text}
+use Rattle.c_model.specs.Macros.{found, same_text}
 use Rattle.pp_macros.proofs.TableLaws.{added-macro, lookup-none, seen, table-parts}
 use Rattle.pp_macros.proofs.table.MacroTable.add.Goals as goal
 

@@ -1,4 +1,3 @@
-use Rattle.std.proofs.Common.{◌≡◌}
 use Rattle.c_model.specs.Macros.{found}
 use Rattle.pp_macros.proofs.TableLaws.{defines-same, defines-new, standing-none}
 use Rattle.pp_macros.proofs.table.MacroTable.define.Goals as goal

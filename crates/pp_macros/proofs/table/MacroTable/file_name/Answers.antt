@@ -1,4 +1,4 @@
-use Rattle.std.proofs.Common.{◌≡◌, ◌∙◌, ap, sym}
+use Rattle.std.proofs.Common.{◌∙◌, ap, sym}
 use Rattle.c_model.specs.Macros.{file_name}
 use Rattle.pp_macros.proofs.TableLaws.{or_empty, file_name-lookup, same_pairs}
 use Rattle.pp_macros.proofs.table.MacroTable.file_name.Goals as goal

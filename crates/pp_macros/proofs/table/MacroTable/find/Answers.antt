@@ -1,4 +1,4 @@
-use Rattle.std.proofs.Common.{◌≡◌, ◌∙◌, ap}
+use Rattle.std.proofs.Common.{◌∙◌, ap}
 use Rattle.c_model.specs.Macros.{found}
 use Rattle.pp_macros.proofs.TableLaws.{found-lookup}
 use Rattle.pp_macros.proofs.table.MacroTable.find.Goals as goal

@@ -1,5 +1,5 @@
-use Rattle.std.proofs.Common.{◌≡◌, ◌∙◌, ap, sym, List, ℕ}
-use Rattle.c_model.specs.Macros.{Macros, Macro, with_file}
+use Rattle.std.proofs.Common.{◌∙◌, ap, sym, List, ℕ}
+use Rattle.c_model.specs.Macros.{with_file}
 use Rattle.pp_macros.proofs.TableLaws.{added-file, same_pairs, table-parts}
 use Rattle.pp_macros.proofs.table.MacroTable.name_file.Goals as goal
 

@@ -1,4 +1,3 @@
-use Rattle.std.proofs.Common.{◌≡◌, ◌∙◌, ap, sym}
 use Rattle.c_model.specs.Macros.{first_table}
 use Rattle.pp_macros.proofs.TableLaws.{one_more_macro}
 use Rattle.pp_macros.proofs.table.MacroTable.new.Goals as goal

@@ -1,4 +1,4 @@
-use Rattle.std.proofs.Common.{◌≡◌, ◌∙◌, ap, sym, Option, Some, None}
+use Rattle.std.proofs.Common.{◌∙◌, ap, sym}
 use Rattle.c_model.specs.Macros.{ranked}
 use Rattle.pp_macros.proofs.TableLaws.{ranked-some, ranked-none}
 use Rattle.pp_macros.proofs.table.MacroTable.ranked.Goals as goal

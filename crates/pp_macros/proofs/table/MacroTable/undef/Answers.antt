@@ -1,6 +1,6 @@
-use Rattle.std.proofs.Common.{◌≡◌, ◌∙◌, ap, sym, Option, Some, None, List, ℕ}
+use Rattle.std.proofs.Common.{◌∙◌, ap}
 use Rattle.std.specs.Option.{is_some}
-use Rattle.c_model.specs.Macros.{Macros, Macro, defines, without}
+use Rattle.c_model.specs.Macros.{defines, without}
 use Rattle.pp_macros.proofs.TableLaws.{defines-lookup, without-removed, seen, table-parts}
 use Rattle.pp_macros.proofs.table.MacroTable.undef.Goals as goal
 

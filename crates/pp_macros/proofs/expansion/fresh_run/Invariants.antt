@@ -1,0 +1,6 @@
+use Rattle.std.proofs.Common.{◌≡◌, ◌++◌, drop, map}
+use Rattle.c_model.specs.Pasting.{fresh}
+use Rattle.pp_macros.proofs.expansion.fresh_run.Given as goal
+
+abbrev pub invariant-loop-at : goal.invariant-loop-at
+invariant-loop-at l = l.run ++ map fresh (drop l.at l.toks) ≡ map fresh l.toks
