@@ -92,6 +92,9 @@ def compare(rng, folder):
 
 
 def main():
+    # The first use builds the program, and says so on standard error.
+    if subprocess.run([CAKE], stdout=subprocess.DEVNULL, check=False).returncode == 70:
+        return 1
     wrong = []
     with tempfile.TemporaryDirectory() as folder:
         for words, text, *want in ROWS:
