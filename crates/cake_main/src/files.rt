@@ -17,7 +17,10 @@ pub struct RealFiles<'r, R> {
 
 impl<'r, R> RealFiles<'r, R> {
     /// Counts begin at 0.
-    pub fn new(system: &'r R) -> RealFiles<'r, R> {
+    pub fn new(system: &'r R) -> RealFiles<'r, R>
+        ensures faults { result.faults ≡ 0 }
+        ensures misses { result.misses ≡ 0 }
+    {
         RealFiles {
             system,
             faults: 0,

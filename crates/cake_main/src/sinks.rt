@@ -13,7 +13,9 @@ pub struct RealSink<W> {
 
 impl<W> RealSink<W> {
     /// The count begins at 0.
-    pub fn new(stream: W) -> RealSink<W> {
+    pub fn new(stream: W) -> RealSink<W>
+        ensures { result.faults ≡ 0 }
+    {
         RealSink { stream, faults: 0 }
     }
 }
