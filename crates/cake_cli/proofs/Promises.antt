@@ -113,23 +113,31 @@ whole_prefix text c e = (length text, le text, e ∙ ap (appended c.err.content)
     le : (text : List ℕ) → length text ≤ length text
     le text = omega arith
 
-err_of_due : (plan : Plan) (due : Answer) (c : Call) → PutsOnErr (err_text due) c → ErrGets (status_of due) plan due c
-err_of_due plan (Usage n) c e = e
-err_of_due plan (Unreadable name) c e = (err_text (Unreadable name), inl refl, e)
-err_of_due plan (Refused name place) c e = e
-err_of_due plan (Written core) c e = e
+-- an answer that the file can't be read is due only for the file that the words name
+unreadable_file : (plan : Plan) (c : Call) (name : List ℕ) → IsDue plan c (Unreadable name) → plan ≡ File name
+unreadable_file (Bad number) c name (held, are, is) = absurd (let h : Unreadable name ≡ Usage number = is in cc)
+unreadable_file (File other) c name (held, are, (MainMissing, v, a)) = let same : other ≡ name = cc in ap File same
+unreadable_file (File other) c name (held, are, (TooLarge, v, a)) = let same : other ≡ name = cc in ap File same
+unreadable_file (File other) c name (held, are, (NotBuilt place, v, a)) = absurd (let h : Unreadable name ≡ Refused other place = a in cc)
+unreadable_file (File other) c name (held, are, (IsCore core, v, a)) = absurd (let h : Unreadable name ≡ Written core = a in cc)
 
-err_by : (plan : Plan) (due : Answer) (c : Call) (result : Status) → Outcome plan due c result → ErrGets result plan due c
-err_by plan due c result (as_due text is (all_put r e o)) = subst (λ s. ErrGets s plan due c) (sym r) (err_of_due plan due c e)
-err_by plan due c result (as_due text is (err_failed r rose e o)) = subst (λ s. ErrGets s plan due c) (sym r) (err_text due, inl refl, e)
-err_by plan due c result (as_due text is (out_failed r rose e o ne)) = subst (λ s. ErrGets s plan due c) (sym r) (err_text due, inl refl, whole_prefix (err_text due) c e)
-err_by plan due c result (no_memory name pl r o e) = subst (λ s. ErrGets s plan due c) (sym r) e
-err_by plan due c result (failed_read name pl f (all_put r e o)) = subst (λ s. ErrGets s plan due c) (sym r) (cannot_read_line name, inr (f, name, pl, refl), e)
-err_by plan due c result (failed_read name pl f (err_failed r rose e o)) = subst (λ s. ErrGets s plan due c) (sym r) (cannot_read_line name, inr (f, name, pl, refl), e)
-err_by plan due c result (failed_read name pl f (out_failed r rose e o ne)) = absurd (ne refl)
+err_of_due : (plan : Plan) (due : Answer) (c : Call) → IsDue plan c due → PutsOnErr (err_text due) c → ErrGets (status_of due) plan due c
+err_of_due plan (Usage n) c is e = e
+err_of_due plan (Unreadable name) c is e = (name, unreadable_file plan c name is, e)
+err_of_due plan (Refused name place) c is e = e
+err_of_due plan (Written core) c is e = e
+
+err_by : (plan : Plan) (due : Answer) (c : Call) (result : Status) → IsDue plan c due → Outcome plan due c result → ErrGets result plan due c
+err_by plan due c result due_is (as_due text is (all_put r e o)) = subst (λ s. ErrGets s plan due c) (sym r) (err_of_due plan due c due_is e)
+err_by plan due c result due_is (as_due text is (err_failed r rose e o)) = subst (λ s. ErrGets s plan due c) (sym r) (err_text due, inl refl, e)
+err_by plan due c result due_is (as_due text is (out_failed r rose e o ne)) = subst (λ s. ErrGets s plan due c) (sym r) (err_text due, inl refl, whole_prefix (err_text due) c e)
+err_by plan due c result due_is (no_memory name pl r o e) = subst (λ s. ErrGets s plan due c) (sym r) e
+err_by plan due c result due_is (failed_read name pl f (all_put r e o)) = subst (λ s. ErrGets s plan due c) (sym r) (name, pl, e)
+err_by plan due c result due_is (failed_read name pl f (err_failed r rose e o)) = subst (λ s. ErrGets s plan due c) (sym r) (cannot_read_line name, inr (f, name, pl, refl), e)
+err_by plan due c result due_is (failed_read name pl f (out_failed r rose e o ne)) = absurd (ne refl)
 
 pub err : (plan : Plan) (c : Call) (result : Status) → ComesOut plan c result → ForDue plan c (λ due. ErrGets result plan due c)
-err plan c result (due, is, out) = (due, is, err_by plan due c result out)
+err plan c result (due, is, out) = (due, is, err_by plan due c result is out)
 
 -- causes
 

@@ -128,7 +128,7 @@ ErrGets status.Written plan due c = PutsOnErr (err_text due) c
 ErrGets status.Refused plan due c = PutsOnErr (err_text due) c
 ErrGets status.Usage plan due c = PutsOnErr (err_text due) c
 ErrGets status.Limit plan due c = PutsOnErr (err_text due) c
-ErrGets status.ReadFault plan due c = (text : List ℕ) × IsErrText plan due c text × PutsOnErr text c
+ErrGets status.ReadFault plan due c = (name : List ℕ) × (plan ≡ File name) × PutsOnErr (cannot_read_line name) c
 ErrGets status.WriteFault plan due c = (text : List ℕ) × IsErrText plan due c text × PutsPrefixOnErr text c
 ErrGets status.NoMemory plan due c = NothingOnErr c
 
