@@ -28,6 +28,10 @@ pub mod SourceCalls
 pub mod TypedParts
 pub mod TypedExpr
 pub mod TypedStat
+pub mod PossibleTypes
+pub mod MemberTypes
+pub mod InitialParts
+pub mod BuiltinTypes
 pub mod TypedScope
 pub mod StaticValues
 pub mod SourceWords
