@@ -29,3 +29,4 @@ pub mod Forget
 pub mod RegainPrimary
 pub mod PpNumberLaws
 pub mod LiteralLaws
+pub mod Releases

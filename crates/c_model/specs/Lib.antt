@@ -67,10 +67,13 @@ pub mod Flat89
 pub mod WrittenType
 pub mod Translation
 pub mod GivenBlocks
+pub mod Tracked
+pub mod LvaluesIn
 pub mod Ownership
 pub mod ExampleParts
 pub mod Examples
 pub mod ExampleList
+pub mod ExampleReleases
 pub mod ExampleTexts
 pub mod ExampleMemory
 pub mod FirstTokens
