@@ -30,3 +30,4 @@ pub mod RegainPrimary
 pub mod PpNumberLaws
 pub mod LiteralLaws
 pub mod Releases
+pub mod FirstUnitTyped
