@@ -74,6 +74,7 @@ pub mod ExampleParts
 pub mod Examples
 pub mod ExampleList
 pub mod ExampleReleases
+pub mod ExampleFaults
 pub mod ExampleTexts
 pub mod ExampleMemory
 pub mod FirstTokens

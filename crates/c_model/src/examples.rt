@@ -3,7 +3,7 @@
 ghost use Rattle.std.specs.Prelude.{◌≡◌, true, pos, [], ◌∷◌, codes};
 ghost use Rattle.c_model.specs.SourceRun.{run23};
 ghost use Rattle.c_model.specs.TypedCore.{is_typed_core};
-ghost use Rattle.c_model.specs.Examples.{loop_with_defer, written_by_loop, deferred_assignment, hidden_name, load_before_call, function_literal, no_value, without_value, returned};
+ghost use Rattle.c_model.specs.Examples.{loop_with_defer, written_by_loop, deferred_assignment, hidden_name, load_before_call, function_literal, no_value, without_value, returned, with_nothing, call_of_nothing, chosen_nothing, nothing_is_used};
 ghost use Rattle.c_model.specs.Typing89.{is_typed};
 ghost use Rattle.c_model.specs.TargetRun.{run89};
 ghost use Rattle.c_model.specs.ExampleTexts.{writes_bytes, prints_node, printed};
@@ -40,6 +40,12 @@ pub fn function_literal_is_called()
 /// An object without a value has none to read.
 pub fn uninitialised_object_is_undefined()
     ensures { run23 100 no_value (codes "main") [] [] ≡ without_value }
+{}
+
+/// The missing value of a call is used where it is chosen, and not where it is dropped.
+pub fn chosen_value_is_used()
+    ensures chosen { run23 100 (with_nothing chosen_nothing) (codes "main") [] [] ≡ nothing_is_used }
+    ensures dropped { run23 100 (with_nothing call_of_nothing) (codes "main") [] [] ≡ returned [] 0 }
 {}
 
 /// A list is built on the heap, printed and freed, or not built where there is no memory.
