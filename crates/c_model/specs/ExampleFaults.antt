@@ -1,5 +1,6 @@
--- Cores that aren't typed, each by one thing, and some that are where it may be doubted.
-use Rattle.std.specs.Prelude.{ℕ, pos, true, false, List, [], ◌∷◌, codes, Some, None}
+-- Cores that aren't typed, each by one thing, some that are where it may be doubted, and C89 programs whose
+-- declarations don't agree.
+use Rattle.std.specs.Prelude.{ℕ, pos, true, false, List, [], ◌∷◌, codes, Option, Some, None}
 use Rattle.c_model.specs.declared.numbers.Basic.TheVariants.{Bool as bool, Char, Int, Long}
 use Rattle.c_model.specs.declared.numbers.BinOp.{BinOp}
 use Rattle.c_model.specs.declared.numbers.BinOp.TheVariants.{Mul, Add}
@@ -11,6 +12,9 @@ use Rattle.c_model.specs.CoreTypes.{int_type, plain, pointer_to}
 use Rattle.c_model.specs.Core.{Core, Expr, Constant, Load, Address, FunctionRef, Binary, Logic, Convert, Assign, Plain, Compound, Lvalue, Field, Deref, Initials, no_initials, more_initials, Stat, Storage, Parameter, Static, Declared, Text, DeclaredObject, Function, no_stat, a_stat}
 use Rattle.c_model.specs.ExampleParts.{nowhere, no_mark, number, int_variable, variable, load, binary, assigned, call, evaluate, start, block, return, function_type, automatic, stored_as, global_int, function, unit, int_value}
 use Rattle.c_model.specs.ExampleList.{is_const, size_type, int_void, implied}
+use Rattle.c_model.specs.Types89 as type89
+use Rattle.c_model.specs.Program89 as text
+use Rattle.c_model.specs.FirstRow.{program_returning, int_number}
 
 -- a unit whose `main` does this with these objects
 abbrev pub doing : List DeclaredObject → List ℕ → List Stat → Core
@@ -184,3 +188,21 @@ array_in_its_initializer =
     (more_initials (1 ∷ []) 4 int_type
     (load (Deref (Address Implied (variable 1 (plain (Array int_type None))) no_mark) no_mark)) no_initials)) no_mark
     ∷ [])
+
+-- C89 programs
+
+abbrev pub outer89 : text.Storage → type89.Type89 → List ℕ → Option text.Init → text.Outer
+outer89 storage type name init = record { storage = storage; type = type; name = name; init = init }
+
+abbrev pub function89 : type89.Type89
+function89 = type89.Function type89.int_type type89.no_types false
+
+-- int main(void) { return 0; } behind these declarations
+abbrev pub declaring89 : List text.Outer → text.Program
+declaring89 outers = record (program_returning (int_number 0)) { outers = outers }
+
+abbrev pub main89 : text.Storage → text.Outer
+main89 storage = outer89 storage function89 (codes "main") None
+
+abbrev pub object89 : text.Storage → text.Outer
+object89 storage = outer89 storage type89.int_type (codes "x") (Some (text.Value (int_number 0)))

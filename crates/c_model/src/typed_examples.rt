@@ -1,6 +1,6 @@
 //! What is asked of a typed core, by cores that aren't: each function does nothing, and its contract is
 //! what the definition answers.
-ghost use Rattle.std.specs.Prelude.{◌≡◌, true, false, pos, [], ◌∷◌, Some, None};
+ghost use Rattle.std.specs.Prelude.{◌≡◌, true, false, [], ◌∷◌, None, codes};
 ghost use Rattle.c_model.specs.declared.numbers.Basic.TheVariants as basic;
 ghost use Rattle.c_model.specs.declared.numbers.BinOp.TheVariants.{Add, Mul};
 ghost use Rattle.c_model.specs.declared.marks.Origin.TheVariants.{Written, Implied};
@@ -9,8 +9,10 @@ ghost use Rattle.c_model.specs.CoreTypes.{int_type, plain, pointer_to};
 ghost use Rattle.c_model.specs.Core.{Convert, no_initials};
 ghost use Rattle.c_model.specs.ExampleParts.{no_mark, number, int_variable, load, function_type};
 ghost use Rattle.c_model.specs.ExampleList.{implied};
-ghost use Rattle.c_model.specs.ExampleFaults.{array_of, const_int, one_number_twice, declared_again_inside, used_out_of_scope, parameter_without_object, address_not_noted, value_for_no_part, value_elsewhere, two_values_for_one_part, values_out_of_order, values_in_order, part_over_whole, whole_value, int_value_at, call_in_constant, moved_null, object_of, with_structure, structure_in_itself, declared_function, variadic_definition, string_without_room, internal_undefined, malloc_without_owner, defined_abort, const_member_inside, member_assigned, valued, pointer, compound, array_gains_const, array_in_its_initializer};
+ghost use Rattle.c_model.specs.ExampleFaults.{array_of, const_int, one_number_twice, declared_again_inside, used_out_of_scope, parameter_without_object, address_not_noted, value_for_no_part, value_elsewhere, two_values_for_one_part, values_out_of_order, values_in_order, part_over_whole, whole_value, int_value_at, call_in_constant, moved_null, object_of, with_structure, structure_in_itself, declared_function, variadic_definition, string_without_room, internal_undefined, malloc_without_owner, defined_abort, const_member_inside, member_assigned, valued, pointer, compound, array_gains_const, array_in_its_initializer, outer89, function89, declaring89, main89, object89};
 ghost use Rattle.c_model.specs.TypedCore.{is_typed_core};
+ghost use Rattle.c_model.specs.Program89.{Plainly, Static, Extern};
+ghost use Rattle.c_model.specs.Typing89 as text;
 
 /// Each object has a number of its own, and is used in its scope.
 pub fn numbers_and_scopes_are_asked()
@@ -73,4 +75,14 @@ pub fn assignments_and_conversions_are_asked()
     ensures pointer_to_bool { is_typed_core (valued (implied (plain (Integer basic.Bool)) (load pointer))) ≡ true }
     ensures pointer_to_enum { is_typed_core (valued (implied (plain (Enum basic.Bool 0)) (load pointer))) ≡ false }
     ensures const_gained { is_typed_core array_gains_const ≡ true }
+{}
+
+/// Declarations of a C89 program agree in linkage, what is static is defined, and nothing has two values.
+pub fn linkage_of_texts_is_asked()
+    ensures plain { text.is_typed (declaring89 (main89 Plainly ∷ [])) ≡ true }
+    ensures static_prototype { text.is_typed (declaring89 (main89 Static ∷ [])) ≡ false }
+    ensures static_undefined { text.is_typed (declaring89 (main89 Plainly ∷ outer89 Static function89 (codes "f") None ∷ [])) ≡ false }
+    ensures one_value { text.is_typed (declaring89 (main89 Plainly ∷ object89 Plainly ∷ [])) ≡ true }
+    ensures two_values { text.is_typed (declaring89 (main89 Plainly ∷ object89 Plainly ∷ object89 Plainly ∷ [])) ≡ false }
+    ensures two_linkages { text.is_typed (declaring89 (main89 Plainly ∷ outer89 Extern function89 (codes "f") None ∷ outer89 Static function89 (codes "f") None ∷ [])) ≡ false }
 {}
