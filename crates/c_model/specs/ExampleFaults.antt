@@ -1,16 +1,16 @@
 -- Cores that aren't typed, each by one thing, some that are where it may be doubted, and C89 programs whose
 -- declarations don't agree.
 use Rattle.std.specs.Prelude.{ℕ, pos, true, false, List, [], ◌∷◌, codes, Option, Some, None}
-use Rattle.c_model.specs.declared.numbers.Basic.TheVariants.{Bool as bool, Char, Int, Long}
+use Rattle.c_model.specs.declared.numbers.Basic.TheVariants.{Char, Int}
 use Rattle.c_model.specs.declared.numbers.BinOp.{BinOp}
-use Rattle.c_model.specs.declared.numbers.BinOp.TheVariants.{Mul, Add}
+use Rattle.c_model.specs.declared.numbers.BinOp.TheVariants.{Add}
 use Rattle.c_model.specs.declared.operators.LogicOp.TheVariants.{And}
 use Rattle.c_model.specs.declared.marks.Origin.TheVariants.{Written, Implied}
-use Rattle.c_model.specs.Types.{CType, typed, Void, Integer, Enum, Pointer, Array, Struct, Function as FunctionForm, no_types, types}
+use Rattle.c_model.specs.Types.{CType, typed, Void, Integer, Array, Struct, Function as FunctionForm, types}
 use Rattle.c_model.specs.Structures.{Member, Structure}
 use Rattle.c_model.specs.CoreTypes.{int_type, plain, pointer_to}
-use Rattle.c_model.specs.Core.{Core, Expr, Constant, Load, Address, FunctionRef, Binary, Logic, Convert, Assign, Plain, Compound, Lvalue, Field, Deref, Initials, no_initials, more_initials, Stat, Storage, Parameter, Static, Declared, Text, DeclaredObject, Function, no_stat, a_stat}
-use Rattle.c_model.specs.ExampleParts.{nowhere, no_mark, number, int_variable, variable, load, binary, assigned, call, evaluate, start, block, return, function_type, automatic, stored_as, global_int, function, unit, int_value}
+use Rattle.c_model.specs.Core.{Core, Expr, Constant, Address, Logic, Assign, Compound, Lvalue, Field, Deref, Initials, no_initials, more_initials, Stat, Parameter, Static, Declared, Text, DeclaredObject, no_stat, a_stat}
+use Rattle.c_model.specs.ExampleParts.{nowhere, no_mark, number, int_variable, variable, load, binary, assigned, call, evaluate, block, return, function_type, automatic, stored_as, function, unit}
 use Rattle.c_model.specs.ExampleList.{is_const, size_type, int_void, implied}
 use Rattle.c_model.specs.Types89 as type89
 use Rattle.c_model.specs.Program89 as text

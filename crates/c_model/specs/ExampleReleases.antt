@@ -9,7 +9,7 @@ use Rattle.c_model.specs.declared.outcomes.Cause.TheVariants.{Dead, BadRelease}
 use Rattle.c_model.specs.Types.{CType, typed, Integer, Pointer}
 use Rattle.c_model.specs.CoreTypes.{int_type, plain}
 use Rattle.c_model.specs.Run.{Run, Took, Freed, Returned, Undefined}
-use Rattle.c_model.specs.Core.{Core, Expr, Call, FunctionRef, Load, Assign, Plain, Unary, exprs, Lvalue, Object, Deref, Stat, If, For, no_expr, an_expr, no_stat, a_stat, DeclaredObject}
+use Rattle.c_model.specs.Core.{Core, Call, FunctionRef, Assign, Plain, Unary, exprs, Lvalue, Object, Deref, Stat, If, For, no_expr, an_expr, no_stat, a_stat, DeclaredObject}
 use Rattle.c_model.specs.ExampleParts.{mark_of, no_mark, no_span, number, int_variable, load, binary, increment, call, evaluate, start, block, return, function_type, automatic, function, unit, int_value}
 use Rattle.c_model.specs.ExampleList.{owner_or_null, void_owner, size_type, free_type, int_void, implied}
 

@@ -1,5 +1,5 @@
 -- The type of a structure's member, and what may be assigned to (ISO/IEC 9899:2024, 6.3.3.1, 6.5.3.4, 6.7.4.1).
-use Rattle.std.specs.Prelude.{ℕ, zero, suc, Bool, true, false, ◌&&◌, ◌||◌, not, List, Option, Some, None, slice_get}
+use Rattle.std.specs.Prelude.{ℕ, zero, suc, Bool, false, ◌&&◌, ◌||◌, not, List, Option, Some, None, slice_get}
 use Rattle.std.specs.List.{list_any}
 use Rattle.c_model.specs.declared.types.Quals.{Quals}
 use Rattle.c_model.specs.declared.types.StructId.{StructId}

@@ -1,7 +1,7 @@
 -- Tracked places (this profile's own, over the objects of 6.2.4): automatic pointer objects and parameters
 -- that are owners, and those that are optional views and whose address is taken nowhere. The object of a
 -- compound literal has no name, and isn't tracked.
-use Rattle.std.specs.Prelude.{ℕ, Bool, true, false, ◌&&◌, ◌||◌, not, List, [], ◌∷◌, ◌++◌, Option, Some, None, filter}
+use Rattle.std.specs.Prelude.{ℕ, Bool, true, false, ◌&&◌, ◌||◌, not, List, [], ◌++◌, Option, Some, None, filter}
 use Rattle.c_model.specs.Types.{CType, form_of_type, quals_of_type}
 use Rattle.c_model.specs.CoreTypes.{is_pointer}
 use Rattle.c_model.specs.Core as unit
