@@ -3,7 +3,7 @@
 use Rattle.std.specs.Prelude.{ℕ, pos, true, false, List, [], ◌∷◌, codes, Option, Some, None}
 use Rattle.c_model.specs.declared.numbers.Basic.TheVariants.{Char, Int}
 use Rattle.c_model.specs.declared.numbers.BinOp.{BinOp}
-use Rattle.c_model.specs.declared.numbers.BinOp.TheVariants.{Add}
+use Rattle.c_model.specs.declared.numbers.BinOp.TheVariants.{Add, Equal}
 use Rattle.c_model.specs.declared.operators.LogicOp.TheVariants.{And}
 use Rattle.c_model.specs.declared.marks.Origin.TheVariants.{Written, Implied}
 use Rattle.c_model.specs.Types.{CType, typed, Void, Integer, Array, Struct, Function as FunctionForm, types}
@@ -206,3 +206,39 @@ main89 storage = outer89 storage function89 (codes "main") None
 
 abbrev pub object89 : text.Storage → text.Outer
 object89 storage = outer89 storage type89.int_type (codes "x") (Some (text.Value (int_number 0)))
+
+-- a `main` that returns this value, behind these declarations
+abbrev pub returning89 : List text.Outer → text.Expr → text.Program
+returning89 outers e = record (program_returning e) { outers = main89 text.Plainly ∷ outers }
+
+abbrev pub extern89 : type89.Type89 → List ℕ → text.Outer
+extern89 type name = outer89 text.Extern type name None
+
+-- extern int f(void); extern int *p; extern void *v;
+abbrev pub outside89 : List text.Outer
+outside89 =
+    extern89 function89 (codes "f") ∷ extern89 (type89.Pointer false type89.int_type) (codes "p")
+    ∷ extern89 (type89.Pointer false (type89.Based false type89.Void)) (codes "v") ∷ []
+
+abbrev pub f89 : text.Expr
+f89 = text.Name (codes "f")
+
+abbrev pub p89 : text.Expr
+p89 = text.Name (codes "p")
+
+abbrev pub v89 : text.Expr
+v89 = text.Name (codes "v")
+
+-- ((1 ? v : p) == p)
+abbrev pub joined89 : text.Expr → text.Expr
+joined89 first = text.Binary Equal (text.Choice (int_number 1) first p89) p89
+
+-- static T x = e;
+abbrev pub started89 : type89.Type89 → text.Expr → text.Program
+started89 type e = declaring89 (main89 text.Plainly ∷ extern89 function89 (codes "f") ∷ outer89 text.Static type (codes "x") (Some (text.Value e)) ∷ [])
+
+abbrev pub char_pointer89 : type89.Type89
+char_pointer89 = type89.Pointer false (type89.Based false type89.Char)
+
+abbrev pub null89 : text.Expr
+null89 = text.Cast char_pointer89 (int_number 0)

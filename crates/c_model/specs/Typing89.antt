@@ -37,12 +37,12 @@ abbrev pub is_parameter : Type89 → Bool
 is_parameter type = not (is_array type) && not (is_function type) && not (is_void type) && not (is_const_pointer type)
 
 abbrev mutual
-  -- a type has structures that are declared, elements that are objects, results that are values, and const
+  -- a type has structures that are declared, complete elements, results that are values, and const
   -- of a pointer only behind a pointer
   pub type_fits : List text.Structure → Type89 → Bool
   type_fits structures (Based is_const base) = base_fits structures base
   type_fits structures (Pointer is_const to) = type_fits structures to
-  type_fits structures (Array count of) = type_fits structures of && not (is_function of) && not (is_void of)
+  type_fits structures (Array count of) = type_fits structures of && is_complete structures of
   type_fits structures (FunctionType result parameters is_variadic) =
       type_fits structures result && not (is_array result) && not (is_function result) && not (is_const_pointer result) && types_fit structures parameters
 
@@ -111,7 +111,7 @@ agrees type (Some other) = compatible type other
 
 abbrev pub outer_fits : Names → text.Outer → Bool
 outer_fits names o =
-    declared_fits names.structures o.type && agrees o.type (find_name names.declared o.name)
+    declared_fits names.structures o.type && not (is_void o.type) && agrees o.type (find_name names.declared o.name)
     && (if defines o && not (is_function o.type) then is_complete names.structures o.type else true)
     && value_fits (record names { declared = record { type = o.type; name = o.name } ∷ names.declared }) o.type o.init
 
