@@ -1,16 +1,15 @@
 -- What is read as a condition is one by the grammar: the frames are built of the tokens that are read.
-use Rattle.std.proofs.Common.{◌≡◌, ℕ, zero, suc, ◌<◌, ◌≤◌, ◌⊎◌, inl, inr, Bool, true, false, nat_le, List, [], ◌∷◌, ◌++◌, Option, Some, None, refl, sym, ap, ◌∙◌, subst, arith, append_assoc, append-nil, cond}
+use Rattle.std.proofs.Common.{◌≡◌, ℕ, zero, suc, ◌≤◌, true, false, nat_le, List, [], ◌∷◌, ◌++◌, Option, Some, None, refl, sym, ap, ◌∙◌, subst, arith, append_assoc, append-nil, cond}
 use Rattle.std.proofs.lemmas.Bool.Decides.{nat_tests}
 use Rattle.c_model.specs.declared.conditions.ConditionToken.{ConditionToken}
 use Rattle.c_model.specs.declared.conditions.ConditionToken.TheVariants as token
 use Rattle.c_model.specs.declared.conditions.Infix.{Infix}
-use Rattle.c_model.specs.declared.conditions.Infix.TheVariants.{Integer, Logic}
+use Rattle.c_model.specs.declared.conditions.Infix.TheVariants.{Integer}
 use Rattle.c_model.specs.declared.conditions.Prefix.{Prefix}
 use Rattle.c_model.specs.declared.conditions.Prefix.TheVariants.{Plus, Minus, Complement, Not}
-use Rattle.c_model.specs.declared.numbers.BinOp.{BinOp}
 use Rattle.c_model.specs.declared.numbers.BinOp.TheVariants.{Add, Sub}
 use Rattle.c_model.specs.ConditionGrammar.{Condition, constant, unary, binary, choice, kind_of, sign_of, Derives, constants, parentheses, tighter, signed, operation, chosen}
-use Rattle.c_model.specs.ConditionReader.{Algebra, given, Frame, parenthesis, prefix, left, question, colon, Reading, Filled, filled, waiting, standing, begun, continued, closed, parted, alone, whole, next, ended, read_from, read}
+use Rattle.c_model.specs.ConditionReader.{Algebra, given, Frame, parenthesis, prefix, left, question, colon, Reading, filled, begun, continued, closed, parted, alone, next, ended, read_from}
 use Rattle.c_model.specs.ConditionReader as reader
 use Rattle.c_model.specs.ConditionFrames.{Admits, Admits-tighter, kind_of-bounds}
 
@@ -44,18 +43,18 @@ module _ {A : Type 0} (alg : Algebra A) where
   pub data Built : List (Frame A) → List ConditionToken → Type 0 where
     bare : {ts : List ConditionToken} → ts ≡ [] → Built [] ts
     at_parenthesis : {fs : List (Frame A)} {ts : List ConditionToken} → (front : List ConditionToken) → Built fs front →
-      ts ≡ front ++ token.Open ∷ [] → Built (parenthesis ∷ fs) ts
+        ts ≡ front ++ token.Open ∷ [] → Built (parenthesis ∷ fs) ts
     at_prefix : {op : Prefix} {fs : List (Frame A)} {ts : List ConditionToken} → (front : List ConditionToken) → Built fs front →
-      ts ≡ front ++ sign_of op ∷ [] → Built (prefix op ∷ fs) ts
+        ts ≡ front ++ sign_of op ∷ [] → Built (prefix op ∷ fs) ts
     at_left : {op : Infix} {v : A} {fs : List (Frame A)} {ts : List ConditionToken} → (front ls : List ConditionToken) (l : Condition) → Built fs front →
-      Admits (kind_of op) fs → Derives (kind_of op) ls l → v ≡ given alg l →
-      ts ≡ front ++ (ls ++ token.Operator op ∷ []) → Built (left op v ∷ fs) ts
+        Admits (kind_of op) fs → Derives (kind_of op) ls l → v ≡ given alg l →
+        ts ≡ front ++ (ls ++ token.Operator op ∷ []) → Built (left op v ∷ fs) ts
     at_question : {v : A} {fs : List (Frame A)} {ts : List ConditionToken} → (front cs : List ConditionToken) (c : Condition) → Built fs front →
-      Admits 1 fs → Derives 1 cs c → v ≡ given alg c →
-      ts ≡ front ++ (cs ++ token.Question ∷ []) → Built (question v ∷ fs) ts
+        Admits 1 fs → Derives 1 cs c → v ≡ given alg c →
+        ts ≡ front ++ (cs ++ token.Question ∷ []) → Built (question v ∷ fs) ts
     at_colon : {v w : A} {fs : List (Frame A)} {ts : List ConditionToken} → (front cs ls : List ConditionToken) (c l : Condition) → Built fs front →
-      Admits 1 fs → Derives 1 cs c → Derives 0 ls l → v ≡ given alg c → w ≡ given alg l →
-      ts ≡ front ++ (cs ++ token.Question ∷ (ls ++ token.Colon ∷ [])) → Built (colon v w ∷ fs) ts
+        Admits 1 fs → Derives 1 cs c → Derives 0 ls l → v ≡ given alg c → w ≡ given alg l →
+        ts ≡ front ++ (cs ++ token.Question ∷ (ls ++ token.Colon ∷ [])) → Built (colon v w ∷ fs) ts
 
   -- an operand of this kind stands behind the frames, and ends the tokens
   pub record Ends (kind : ℕ) (fs : List (Frame A)) (a : A) (ts : List ConditionToken) : Type 0 where
@@ -84,21 +83,27 @@ module _ {A : Type 0} (alg : Algebra A) where
       (p ∙ ap (λ (z : List ConditionToken). z ++ last) q ∙ append_assoc before (sign_of op ∷ []) last)
   fills kind g (left op w ∷ fs) front (at_left before ls l b n dl vl q) k h m last e d a v ts p =
       elim (nat_le kind (kind_of op)) as (λ t. nat_le kind (kind_of op) ≡ t →
-          Ends kind (cond t (filled alg kind fs (alg.of_binary op w a)) (record { frames = left op w ∷ fs; operand = a })).frames
-          (cond t (filled alg kind fs (alg.of_binary op w a)) (record { frames = left op w ∷ fs; operand = a })).operand ts) [
+      Ends kind (cond t (filled alg kind fs (alg.of_binary op w a)) (record { frames = left op w ∷ fs; operand = a })).frames
+      (cond t (filled alg kind fs (alg.of_binary op w a)) (record { frames = left op w ∷ fs; operand = a })).operand ts) [
         | true ↦ λ c. fills kind g fs before b (kind_of op) (grind (arith, nat_tests)) n (ls ++ token.Operator op ∷ last) (binary op l e)
             (operation op ls last refl dl (loosen (suc (kind_of op)) k m d) refl)
             (alg.of_binary op w a) (ap (λ (z : A). alg.of_binary op z a) vl ∙ ap (alg.of_binary op (given alg l)) v) ts
             (p ∙ ap (λ (z : List ConditionToken). z ++ last) q ∙ simp append_assoc)
         | false ↦ λ c. record {
-            front = front; last = last; e = e; built = at_left before ls l b n dl vl q; derives = loosen kind k h d;
-            admits = grind (arith, nat_tests); value = v; parts = p;
-          }
+          front = front;
+          last = last;
+          e = e;
+          built = at_left before ls l b n dl vl q;
+          derives = loosen kind k h d;
+          admits = grind (arith, nat_tests);
+          value = v;
+          parts = p;
+        }
       ] refl
   fills kind g (colon w x ∷ fs) front (at_colon before cs ls c l b n dc dl vc vl q) k h m last e d a v ts p =
       elim (nat_le kind 0) as (λ t. nat_le kind 0 ≡ t →
-          Ends kind (cond t (filled alg kind fs (alg.of_choice w x a)) (record { frames = colon w x ∷ fs; operand = a })).frames
-          (cond t (filled alg kind fs (alg.of_choice w x a)) (record { frames = colon w x ∷ fs; operand = a })).operand ts) [
+      Ends kind (cond t (filled alg kind fs (alg.of_choice w x a)) (record { frames = colon w x ∷ fs; operand = a })).frames
+      (cond t (filled alg kind fs (alg.of_choice w x a)) (record { frames = colon w x ∷ fs; operand = a })).operand ts) [
         | true ↦ λ i. fills kind g fs before b 0 (grind (arith, nat_tests)) (Admits-conditional fs n)
             (cs ++ token.Question ∷ (ls ++ token.Colon ∷ last)) (choice c l e)
             (chosen cs ls last dc dl (loosen 0 k (omega arith) d) refl)
@@ -106,9 +111,15 @@ module _ {A : Type 0} (alg : Algebra A) where
             (ap (λ (z : A). alg.of_choice z x a) vc ∙ ap (λ (z : A). alg.of_choice (given alg c) z a) vl ∙ ap (alg.of_choice (given alg c) (given alg l)) v) ts
             (p ∙ ap (λ (z : List ConditionToken). z ++ last) q ∙ simp append_assoc)
         | false ↦ λ i. record {
-            front = front; last = last; e = e; built = at_colon before cs ls c l b n dc dl vc vl q; derives = loosen kind k h d;
-            admits = tt; value = v; parts = p;
-          }
+          front = front;
+          last = last;
+          e = e;
+          built = at_colon before cs ls c l b n dc dl vc vl q;
+          derives = loosen kind k h d;
+          admits = tt;
+          value = v;
+          parts = p;
+        }
       ] refl
 
   -- the tokens are read up to frames, and maybe an operand behind them
@@ -130,8 +141,14 @@ module _ {A : Type 0} (alg : Algebra A) where
   begins : (fs : List (Frame A)) (ts : List ConditionToken) → Built fs ts → (t : ConditionToken) (s : Reading A) → begun alg fs t ≡ Some s →
       Sound s.frames s.operand (ts ++ t ∷ [])
   begins fs ts b (token.Constant n) s = λ q. same _ s q _ (record {
-    front = ts; last = token.Constant n ∷ []; e = constant n; built = b; derives = constants n refl;
-    admits = Admits-tighter 11 fs (Admits-unary fs); value = refl; parts = refl;
+    front = ts;
+    last = token.Constant n ∷ [];
+    e = constant n;
+    built = b;
+    derives = constants n refl;
+    admits = Admits-tighter 11 fs (Admits-unary fs);
+    value = refl;
+    parts = refl;
   })
   begins fs ts b token.Open s = λ q. same _ s q _ (at_parenthesis ts b refl)
   begins fs ts b token.Complement s = λ q. same _ s q _ (at_prefix {op = Complement} ts b refl)
@@ -154,8 +171,13 @@ module _ {A : Type 0} (alg : Algebra A) where
       (a : A) → a ≡ given alg e → (ts : List ConditionToken) → ts ≡ front ++ last → (s : Reading A) → closed fs a ≡ Some s →
       Sound s.frames s.operand (ts ++ token.Close ∷ [])
   closes (parenthesis ∷ fs) front (at_parenthesis before b q) last e d a v ts p s = λ r. same _ s r _ (record {
-    front = before; last = token.Open ∷ (last ++ token.Close ∷ []); e = e; built = b; derives = parentheses last d refl;
-    admits = Admits-tighter 11 fs (Admits-unary fs); value = v;
+    front = before;
+    last = token.Open ∷ (last ++ token.Close ∷ []);
+    e = e;
+    built = b;
+    derives = parentheses last d refl;
+    admits = Admits-tighter 11 fs (Admits-unary fs);
+    value = v;
     parts = ap (λ (z : List ConditionToken). z ++ token.Close ∷ []) (p ∙ ap (λ (z : List ConditionToken). z ++ last) q) ∙ simp append_assoc;
   })
   closes fs front b last e d a v ts p s = λ r. cc
@@ -169,11 +191,11 @@ module _ {A : Type 0} (alg : Algebra A) where
       let b = kind_of-bounds op in
       let f = fill (kind_of op) (omega (arith, b.1)) fs a ts x in
       same _ s q _ (at_left f.front f.last f.e f.built f.admits f.derives f.value
-        (ap (λ (z : List ConditionToken). z ++ token.Operator op ∷ []) f.parts ∙ append_assoc f.front f.last (token.Operator op ∷ [])))
+      (ap (λ (z : List ConditionToken). z ++ token.Operator op ∷ []) f.parts ∙ append_assoc f.front f.last (token.Operator op ∷ [])))
   goes_on fs a ts x token.Question s = λ q.
       let f = fill 1 (omega arith) fs a ts x in
       same _ s q _ (at_question f.front f.last f.e f.built f.admits f.derives f.value
-        (ap (λ (z : List ConditionToken). z ++ token.Question ∷ []) f.parts ∙ append_assoc f.front f.last (token.Question ∷ [])))
+      (ap (λ (z : List ConditionToken). z ++ token.Question ∷ []) f.parts ∙ append_assoc f.front f.last (token.Question ∷ [])))
   goes_on fs a ts x token.Colon s = λ q.
       let f = fill 0 (omega arith) fs a ts x in
       parts (filled alg 0 fs a).frames f.front f.built f.last f.e f.derives (filled alg 0 fs a).operand f.value ts f.parts s q

@@ -1,5 +1,5 @@
 -- What is an expression by the grammar is read as one, behind whatever frames it stands.
-use Rattle.std.proofs.Common.{◌≡◌, ℕ, zero, suc, ◌<◌, ◌≤◌, Bool, true, false, nat_le, List, [], ◌∷◌, ◌++◌, Option, Some, None, refl, sym, ap, ◌∙◌, subst, arith, append_assoc, cond}
+use Rattle.std.proofs.Common.{◌≡◌, ℕ, suc, ◌<◌, ◌≤◌, true, false, nat_le, List, [], ◌∷◌, ◌++◌, Option, Some, None, refl, ap, ◌∙◌, subst, arith, append_assoc, cond}
 use Rattle.std.proofs.lemmas.Bool.Decides.{nat_tests}
 use Rattle.c_model.specs.declared.conditions.ConditionToken.{ConditionToken}
 use Rattle.c_model.specs.declared.conditions.ConditionToken.TheVariants as token
@@ -9,8 +9,8 @@ use Rattle.c_model.specs.declared.numbers.BinOp.TheVariants.{Mul, Div, Rem, Add,
 use Rattle.c_model.specs.declared.operators.LogicOp.TheVariants.{And, Or}
 use Rattle.c_model.specs.declared.conditions.Prefix.{Prefix}
 use Rattle.c_model.specs.declared.conditions.Prefix.TheVariants.{Plus, Minus, Complement, Not}
-use Rattle.c_model.specs.ConditionGrammar.{Condition, constant, unary, binary, choice, kind_of, sign_of, Derives, constants, parentheses, tighter, signed, operation, chosen}
-use Rattle.c_model.specs.ConditionReader.{Algebra, given, Frame, parenthesis, prefix, left, question, colon, Reading, Filled, filled, waiting, standing, begun, continued, closed, parted, alone, whole, read_from, read}
+use Rattle.c_model.specs.ConditionGrammar.{Condition, kind_of, sign_of, Derives, constants, parentheses, tighter, signed, operation, chosen}
+use Rattle.c_model.specs.ConditionReader.{Algebra, given, Frame, parenthesis, prefix, left, question, colon, Reading, Filled, filled, waiting, begun, closed, parted, read_from}
 
 -- an expression of this kind can begin behind these frames
 abbrev pub Admits : {A : Type 0} → ℕ → List (Frame A) → Type 0
@@ -140,7 +140,7 @@ module _ {A : Type 0} (alg : Algebra A) where
             ∙ ap (λ (z : List ConditionToken). from fs z) (append_assoc ls (token.Operator op ∷ rs) rest)
             ∙ s.reads
             ∙ ap (λ (f : Filled A). read_from alg (waiting (left op f.operand) f.frames) (rs ++ rest))
-              (s.fills (kind_of op) (omega (arith, qk)) ∙ filled-none fs (given alg l) b.0 b.1 (subst (λ (k : ℕ). Admits k fs) qk m))
+            (s.fills (kind_of op) (omega (arith, qk)) ∙ filled-none fs (given alg l) b.0 b.1 (subst (λ (k : ℕ). Admits k fs) qk m))
             ∙ u.reads;
         fills = λ k h. u.fills k (omega arith) ∙ filled-left op (given alg l) fs (given alg r) (omega (arith, qk));
       }
@@ -155,7 +155,7 @@ module _ {A : Type 0} (alg : Algebra A) where
             ∙ ap (λ (z : List ConditionToken). from fs z) (append_assoc cs (token.Question ∷ (ls ++ token.Colon ∷ rs)) rest)
             ∙ s.reads
             ∙ ap (λ (f : Filled A). read_from alg (waiting (question f.operand) f.frames) ((ls ++ token.Colon ∷ rs) ++ rest))
-              (s.fills 1 (omega arith) ∙ filled-none fs (given alg c) (omega arith) (omega arith) (Admits-tighter _ fs m))
+            (s.fills 1 (omega arith) ∙ filled-none fs (given alg c) (omega arith) (omega arith) (Admits-tighter _ fs m))
             ∙ ap (λ (z : List ConditionToken). from (question (given alg c) ∷ fs) z) (append_assoc ls (token.Colon ∷ rs) rest)
             ∙ u.reads
             ∙ ap (λ (f : Filled A). read_from alg (parted f.frames f.operand) (rs ++ rest)) (u.fills 0 (omega arith))

@@ -92,13 +92,13 @@ sign_of Not = token.Not
 pub data Derives : ℕ → List ConditionToken → Condition → Type 0 where
   constants : {ts : List ConditionToken} → (n : WideNumber) → ts ≡ token.Constant n ∷ [] → Derives PRIMARY ts (constant n)
   parentheses : {ts : List ConditionToken} {e : Condition} → (inner : List ConditionToken) → Derives CONDITIONAL inner e →
-    ts ≡ token.Open ∷ (inner ++ token.Close ∷ []) → Derives PRIMARY ts e
+      ts ≡ token.Open ∷ (inner ++ token.Close ∷ []) → Derives PRIMARY ts e
   tighter : {kind : ℕ} {ts : List ConditionToken} {e : Condition} → Derives (suc kind) ts e → Derives kind ts e
   signed : {ts : List ConditionToken} {e : Condition} → (op : Prefix) (operand : List ConditionToken) → Derives UNARY operand e →
-    ts ≡ sign_of op ∷ operand → Derives UNARY ts (unary op e)
+      ts ≡ sign_of op ∷ operand → Derives UNARY ts (unary op e)
   operation : {kind : ℕ} {ts : List ConditionToken} {l r : Condition} → (op : Infix) (left right : List ConditionToken) → kind ≡ kind_of op →
-    Derives kind left l → Derives (suc kind) right r →
-    ts ≡ left ++ token.Operator op ∷ right → Derives kind ts (binary op l r)
+      Derives kind left l → Derives (suc kind) right r →
+      ts ≡ left ++ token.Operator op ∷ right → Derives kind ts (binary op l r)
   chosen : {ts : List ConditionToken} {c l r : Condition} → (test first second : List ConditionToken) →
-    Derives LOGICAL_OR test c → Derives CONDITIONAL first l → Derives CONDITIONAL second r →
-    ts ≡ test ++ token.Question ∷ (first ++ token.Colon ∷ second) → Derives CONDITIONAL ts (choice c l r)
+      Derives LOGICAL_OR test c → Derives CONDITIONAL first l → Derives CONDITIONAL second r →
+      ts ≡ test ++ token.Question ∷ (first ++ token.Colon ∷ second) → Derives CONDITIONAL ts (choice c l r)

@@ -1,15 +1,14 @@
 -- A reader of conditions, which says of any tokens whether they are a condition. It computes as it
 -- reads, in any algebra of conditions. No meaning rests on it: it shows that each list of tokens is
 -- one tree at most, and that there is a judgement for each.
-use Rattle.std.specs.Prelude.{ℕ, zero, suc, Bool, true, false, nat_le, nat_lt, if◌then◌else◌, List, [], ◌∷◌, Option, Some, None}
+use Rattle.std.specs.Prelude.{ℕ, nat_le, if◌then◌else◌, List, [], ◌∷◌, Option, Some, None}
 use Rattle.c_model.specs.declared.conditions.ConditionToken.{ConditionToken}
 use Rattle.c_model.specs.declared.conditions.ConditionToken.TheVariants as token
 use Rattle.c_model.specs.declared.conditions.Infix.{Infix}
-use Rattle.c_model.specs.declared.conditions.Infix.TheVariants.{Integer, Logic}
+use Rattle.c_model.specs.declared.conditions.Infix.TheVariants.{Integer}
 use Rattle.c_model.specs.declared.conditions.Prefix.{Prefix}
 use Rattle.c_model.specs.declared.conditions.Prefix.TheVariants.{Plus, Minus, Complement, Not}
 use Rattle.c_model.specs.declared.conditions.WideNumber.{WideNumber}
-use Rattle.c_model.specs.declared.numbers.BinOp.{BinOp}
 use Rattle.c_model.specs.declared.numbers.BinOp.TheVariants.{Add, Sub}
 use Rattle.c_model.specs.ConditionGrammar.{Condition, constant, unary, binary, choice, kind_of}
 
@@ -106,6 +105,7 @@ abbrev pub next : {A : Type 0} → Algebra A → Option A → List (Frame A) →
 next alg None fs t = begun alg fs t
 next alg (Some a) fs t = continued alg fs a t
 
+-- the operand, where no frame waits any longer
 abbrev pub alone : {A : Type 0} → List (Frame A) → A → Option A
 alone [] a = Some a
 alone (f ∷ fs) a = None
@@ -113,11 +113,11 @@ alone (f ∷ fs) a = None
 abbrev pub whole : {A : Type 0} → Filled A → Option A
 whole f = alone f.frames f.operand
 
--- what is read, where no frame waits any longer
 abbrev pub ended : {A : Type 0} → Algebra A → List (Frame A) → Option A → Option A
 ended alg fs None = None
 ended alg fs (Some a) = whole (filled alg 0 fs a)
 
+-- what the tokens give from there on; nothing where they are no condition
 abbrev pub read_from : {A : Type 0} → Algebra A → Option (Reading A) → List ConditionToken → Option A
 read_from alg None ts = None
 read_from alg (Some s) [] = ended alg s.frames s.operand

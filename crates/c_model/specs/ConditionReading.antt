@@ -1,5 +1,5 @@
 -- Tokens are the condition of one tree at most, and there is exactly one judgement on them.
-use Rattle.std.proofs.Common.{◌≡◌, ℕ, Bool, List, [], ◌∷◌, ◌++◌, Option, Some, None, Result, Ok, Err, refl, sym, ap, ◌∙◌, subst, arith, append-nil}
+use Rattle.std.proofs.Common.{◌≡◌, Bool, List, [], Option, Some, None, Result, Err, refl, sym, ap, ◌∙◌, arith, append-nil}
 use Rattle.c_model.specs.declared.conditions.ConditionRule.{ConditionRule}
 use Rattle.c_model.specs.declared.conditions.ConditionRule.TheVariants.{Malformed}
 use Rattle.c_model.specs.declared.conditions.ConditionToken.{ConditionToken}
@@ -63,7 +63,7 @@ concluded (Some v) = holds v.value
 
 -- ---- judgements
 
-Judged-read : (ts : List ConditionToken) (o : Option Valued) → read computed ts ≡ o → Judged ts (concluded o)
+pub Judged-read : (ts : List ConditionToken) (o : Option Valued) → read computed ts ≡ o → Judged ts (concluded o)
 Judged-read ts None q = no_expression (λ e d. let r = read-complete computed ts e d in cc) refl
 Judged-read ts (Some v) q =
     let f = read-sound computed ts v q in

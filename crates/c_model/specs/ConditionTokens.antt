@@ -1,6 +1,6 @@
 -- The tokens of a condition, after macros are replaced (ISO/IEC 9899:2024, 6.10.2): names are numbers,
 -- and constants are of 64 bits.
-use Rattle.std.specs.Prelude.{ℕ, Bool, false, ◌||◌, not, if◌then◌else◌, List, [], ◌∷◌, Option, Some, None, Result, Ok, Err, codes, ℤ, pos}
+use Rattle.std.specs.Prelude.{ℕ, Bool, false, ◌||◌, not, if◌then◌else◌, List, [], ◌∷◌, Result, Ok, Err, codes, pos}
 use Rattle.cake_base.specs.declared.rules.Fault.{Fault}
 use Rattle.c_model.specs.declared.conditions.ConditionRule.{ConditionRule}
 use Rattle.c_model.specs.declared.conditions.ConditionRule.TheVariants.{Malformed, LeftOut}

@@ -1,6 +1,6 @@
 -- The values of conditions (ISO/IEC 9899:2024, 6.5.4.3 to 6.5.16, 6.6, 6.10.2): signed and unsigned
 -- types act as those of 64 bits.
-use Rattle.std.specs.Prelude.{ℕ, ℤ, pos, Bool, true, false, ◌||◌, ◌&&◌, not, if◌then◌else◌, Option, Some, None, Result, Ok, Err}
+use Rattle.std.specs.Prelude.{ℤ, pos, Bool, true, false, ◌||◌, ◌&&◌, not, if◌then◌else◌, Option, Some, None, Result, Ok, Err}
 use Rattle.std.specs.Ordering.{int_eq}
 use Rattle.c_model.specs.declared.conditions.ConditionRule.{ConditionRule}
 use Rattle.c_model.specs.declared.conditions.ConditionRule.TheVariants.{Undefined}

@@ -2,14 +2,12 @@
 -- replaced, and then the tokens are judged.
 use Rattle.std.specs.Prelude.{◌≡◌, ℕ, Bool, List, map, Result, Ok, Err}
 use Rattle.cake_base.specs.declared.places.Place.{Place}
-use Rattle.cake_base.specs.declared.rules.Fault.{Fault}
 use Rattle.cake_base.specs.declared.rules.Family.TheVariants.{P}
 use Rattle.c_model.specs.declared.conditions.ConditionRule.{ConditionRule}
 use Rattle.c_model.specs.declared.conditions.ConditionRule.TheVariants.{Malformed, Undefined, LeftOut}
 use Rattle.c_model.specs.declared.conditions.ConditionToken.{ConditionToken}
 use Rattle.c_model.specs.PpTokens.{PpToken}
 use Rattle.c_model.specs.Macros.{Macros}
-use Rattle.c_model.specs.MacroArguments.{Run}
 use Rattle.c_model.specs.Pasting.{fresh}
 use Rattle.c_model.specs.Expansion.{Stop, broken}
 use Rattle.c_model.specs.Expansion as expansion

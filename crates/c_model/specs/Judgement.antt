@@ -9,6 +9,6 @@ use Rattle.c_model.specs.ConditionValues.{valued, holds}
 -- Whether the condition holds that the tokens are; P15 where it is undefined, P14 where they are none.
 pub data Judged : List ConditionToken → Result Bool ConditionRule → Type 0 where
   expression : {tokens : List ConditionToken} {answer : Result Bool ConditionRule} → (e : Condition) → Derives CONDITIONAL tokens e →
-    answer ≡ holds (valued e).value → Judged tokens answer
+      answer ≡ holds (valued e).value → Judged tokens answer
   no_expression : {tokens : List ConditionToken} {answer : Result Bool ConditionRule} → ((e : Condition) → Derives CONDITIONAL tokens e → ⊥) →
-    answer ≡ Err Malformed → Judged tokens answer
+      answer ≡ Err Malformed → Judged tokens answer
