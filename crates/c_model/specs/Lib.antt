@@ -125,3 +125,13 @@ pub mod ExpansionSteps
 pub mod ExpansionRules
 pub mod ExpansionTotal
 pub mod ExpansionFunction
+pub mod Defined
+pub mod ConditionTokens
+pub mod ConditionGrammar
+pub mod ConditionValues
+pub mod ConditionReader
+pub mod ConditionFrames
+pub mod ConditionBuilt
+pub mod ConditionReading
+pub mod Judgement
+pub mod Conditions
