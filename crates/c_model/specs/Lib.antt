@@ -117,3 +117,16 @@ pub mod ExpansionSteps
 pub mod ExpansionRules
 pub mod ExpansionTotal
 pub mod ExpansionFunction
+pub mod Directives
+pub mod Conditionals
+pub mod Pragmas
+pub mod Includes
+pub mod Headers
+pub mod Processes
+pub mod Sources
+pub mod ConditionStub
+pub mod ControlLines
+pub mod ConditionalLines
+pub mod Preprocessing
+pub mod Included
+pub mod PreprocessedUnit

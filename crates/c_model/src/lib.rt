@@ -5,11 +5,13 @@
 #![tactic(auto)]
 
 pub mod constants;
+pub mod directives;
 pub mod examples;
 pub mod first_tokens;
 pub mod flow;
 pub mod grammar;
 pub mod grammar_laws;
+pub mod headers;
 pub mod laws;
 pub mod macros;
 pub mod marks;
