@@ -128,5 +128,6 @@ pub mod ConditionStub
 pub mod ControlLines
 pub mod ConditionalLines
 pub mod Preprocessing
+pub mod FileSearch
 pub mod Included
 pub mod PreprocessedUnit
