@@ -117,6 +117,16 @@ pub mod ExpansionSteps
 pub mod ExpansionRules
 pub mod ExpansionTotal
 pub mod ExpansionFunction
+pub mod Defined
+pub mod ConditionTokens
+pub mod ConditionGrammar
+pub mod ConditionValues
+pub mod ConditionReader
+pub mod ConditionFrames
+pub mod ConditionBuilt
+pub mod ConditionReading
+pub mod Judgement
+pub mod Conditions
 pub mod Directives
 pub mod Conditionals
 pub mod Pragmas
@@ -124,7 +134,6 @@ pub mod Includes
 pub mod Headers
 pub mod Processes
 pub mod Sources
-pub mod ConditionStub
 pub mod ControlLines
 pub mod ConditionalLines
 pub mod Preprocessing

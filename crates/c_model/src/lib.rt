@@ -4,6 +4,8 @@
 //! shares with them, and the laws of the definitions.
 #![tactic(auto)]
 
+pub mod condition_laws;
+pub mod conditions;
 pub mod constants;
 pub mod directives;
 pub mod examples;

@@ -1,0 +1,6 @@
+//! The conditions of `#if` and `#elif`.
+#![tactic(auto)]
+
+mod condition;
+
+pub use condition::evaluate;
