@@ -7,7 +7,7 @@ use Rattle.c_model.specs.declared.directives.ReadCause.TheVariants as cause
 use Rattle.c_model.specs.Processes.{ReadAnswer, Failed, Stop, broken, passed, unread, Log, Process, gives, refuses, asks}
 use Rattle.pp_directives.specs.declared.errors.PrepError.{PrepError}
 use Rattle.pp_directives.specs.declared.errors.PrepError.TheVariants as prep_error
-use Rattle.pp_directives.specs.Reads.{Asked, Reads, ReadsKeep, After}
+use Rattle.pp_directives.specs.Reads.{Asked, Reads, ReadsKeep, After, Reaches}
 
 -- ---- calls that ask for nothing
 
@@ -30,7 +30,7 @@ Does p (Err error) done log = Halts p error log
 
 -- after some reads that were answered, the process refuses
 abbrev pub Refuses : {A : Type 0} → FilesView → FilesView → Process A → Stop → Log → Type 0
-Refuses old new p stop log = (reads : List Asked) × Reads old reads new × After p reads (halted stop log)
+Refuses old new p stop log = Reaches old new p (halted stop log)
 
 -- After some reads that were answered, a read fails, for which the count of faults rose, and the process
 -- refuses for that.
@@ -58,5 +58,5 @@ Stops old new p prep_error.NoMemory log = (n : ℕ) × ReadsKeep old n new
 
 -- the same as `Does`, of a call that may read files
 abbrev pub Runs : {A T : Type 0} → FilesView → FilesView → Process A → Result T PrepError → (T → A) → Log → Type 0
-Runs old new p (Ok value) done log = (reads : List Asked) × Reads old reads new × After p reads (gives (done value))
+Runs old new p (Ok value) done log = Reaches old new p (gives (done value))
 Runs old new p (Err error) done log = Stops old new p error log

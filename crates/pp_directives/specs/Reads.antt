@@ -33,3 +33,7 @@ After p [] q = p ≡ q
 After (gives a) (r ∷ rs) q = ⊥
 After (refuses e) (r ∷ rs) q = ⊥
 After (asks name f) (r ∷ rs) q = (r.name ≡ name) × After (f r.answer) rs q
+
+-- these reads lead from the one process to the other
+abbrev pub Reaches : {A : Type 0} → FilesView → FilesView → Process A → Process A → Type 0
+Reaches old new p q = (reads : List Asked) × Reads old reads new × After p reads q
