@@ -11,26 +11,26 @@ use Rattle.pp_directives.specs.Outcomes.{halted, Halts, Does, FailsRead, StopsUn
 
 -- ---- chains
 
-reads-append : (old mid new : FilesView) (as bs : List Asked) → Reads old as mid → Reads mid bs new → Reads old (as ++ bs) new
+reads-append : (old mid new : FilesView) (xs bs : List Asked) → Reads old xs mid → Reads mid bs new → Reads old (xs ++ bs) new
 reads-append old mid new [] bs e r = subst (λ z. Reads z bs new) e r
-reads-append old mid new (a ∷ as) bs (next, keeps, answers, rest) r = (next, keeps, answers, reads-append next mid new as bs rest r)
+reads-append old mid new (a ∷ xs) bs (next, keeps, answers, rest) r = (next, keeps, answers, reads-append next mid new xs bs rest r)
 
-keep-append : (old mid new : FilesView) (as : List Asked) (n : ℕ) → Reads old as mid → ReadsKeep mid n new → (m : ℕ) × ReadsKeep old m new
+keep-append : (old mid new : FilesView) (xs : List Asked) (n : ℕ) → Reads old xs mid → ReadsKeep mid n new → (m : ℕ) × ReadsKeep old m new
 keep-append old mid new [] n e r = (n, subst (λ z. ReadsKeep z n new) e r)
-keep-append old mid new (a ∷ as) n (next, keeps, answers, rest) r =
-    let more = keep-append next mid new as n rest r in (suc more.0, (next, keeps, more.1))
+keep-append old mid new (a ∷ xs) n (next, keeps, answers, rest) r =
+    let more = keep-append next mid new xs n rest r in (suc more.0, (next, keeps, more.1))
 
-after-append : {A : Type 0} (p q r : Process A) (as bs : List Asked) → After p as q → After q bs r → After p (as ++ bs) r
+after-append : {A : Type 0} (p q r : Process A) (xs bs : List Asked) → After p xs q → After q bs r → After p (xs ++ bs) r
 after-append p q r [] bs e h = subst (λ z. After z bs r) (sym e) h
-after-append (gives x) q r (a ∷ as) bs e h = absurd e
-after-append (refuses x) q r (a ∷ as) bs e h = absurd e
-after-append (asks name f) q r (a ∷ as) bs (named, rest) h = (named, after-append (f a.answer) q r as bs rest h)
+after-append (gives x) q r (a ∷ xs) bs e h = absurd e
+after-append (refuses x) q r (a ∷ xs) bs e h = absurd e
+after-append (asks name f) q r (a ∷ xs) bs (named, rest) h = (named, after-append (f a.answer) q r xs bs rest h)
 
-after-then : {A B : Type 0} (p q : Process A) (as : List Asked) (f : A → Process B) → After p as q → After (and_then p f) as (and_then q f)
+after-then : {A B : Type 0} (p q : Process A) (xs : List Asked) (f : A → Process B) → After p xs q → After (and_then p f) xs (and_then q f)
 after-then p q [] f e = ap (λ z. and_then z f) e
-after-then (gives x) q (a ∷ as) f e = absurd e
-after-then (refuses x) q (a ∷ as) f e = absurd e
-after-then (asks name g) q (a ∷ as) f (named, rest) = (named, after-then (g a.answer) q as f rest)
+after-then (gives x) q (a ∷ xs) f e = absurd e
+after-then (refuses x) q (a ∷ xs) f e = absurd e
+after-then (asks name g) q (a ∷ xs) f (named, rest) = (named, after-then (g a.answer) q xs f rest)
 
 -- ---- where reads lead
 
@@ -38,19 +38,19 @@ pub reaches-self : {A : Type 0} (old : FilesView) (p q : Process A) → p ≡ q 
 reaches-self old p q e = ([], refl, e)
 
 pub reaches-more : {A : Type 0} (old mid new : FilesView) (p q r : Process A) → Reaches old mid p q → Reaches mid new q r → Reaches old new p r
-reaches-more old mid new p q r (as, reads, after) (bs, more, further) =
-    (as ++ bs, reads-append old mid new as bs reads more, after-append p q r as bs after further)
+reaches-more old mid new p q r (xs, reads, after) (bs, more, further) =
+    (xs ++ bs, reads-append old mid new xs bs reads more, after-append p q r xs bs after further)
 
 pub reaches-then : {A B : Type 0} (old new : FilesView) (p q : Process A) (f : A → Process B) → Reaches old new p q → Reaches old new (and_then p f) (and_then q f)
-reaches-then old new p q f (as, reads, after) = (as, reads, after-then p q as f after)
+reaches-then old new p q f (xs, reads, after) = (xs, reads, after-then p q xs f after)
 
 -- ---- what a call answers after them
 
 fails-after : {A : Type 0} (old mid new : FilesView) (p q : Process A) (file : ℕ) (log : Log) → Reaches old mid p q → FailsRead mid new q file log → FailsRead old new p file log
-fails-after old mid new p q file log (as, reads, after) h = record {
-  reads = as ++ h.reads; mid = h.mid; answered = reads-append old mid h.mid as h.reads reads h.answered;
+fails-after old mid new p q file log (xs, reads, after) h = record {
+  reads = xs ++ h.reads; mid = h.mid; answered = reads-append old mid h.mid xs h.reads reads h.answered;
   keeps = h.keeps; rose = h.rose; name = h.name; next = h.next;
-  after = after-append p q (asks h.name h.next) as h.reads after h.after; stops = h.stops;
+  after = after-append p q (asks h.name h.next) xs h.reads after h.after; stops = h.stops;
 }
 
 pub stops-after : {A : Type 0} (old mid new : FilesView) (p q : Process A) (e : PrepError) (log : Log) → Reaches old mid p q → Stops mid new q e log → Stops old new p e log
@@ -59,7 +59,7 @@ stops-after old mid new p q (prep_error.Limit hit) log h s = reaches-more old mi
 stops-after old mid new p q (prep_error.Read file cause.MainMissing) log h s = reaches-more old mid new p q _ h s
 stops-after old mid new p q (prep_error.Read file cause.TooLarge) log h s = reaches-more old mid new p q _ h s
 stops-after old mid new p q (prep_error.Read file cause.Failed) log h s = fails-after old mid new p q file log h s
-stops-after old mid new p q prep_error.NoMemory log (as, reads, after) (n, keeps) = keep-append old mid new as n reads keeps
+stops-after old mid new p q prep_error.NoMemory log (xs, reads, after) (n, keeps) = keep-append old mid new xs n reads keeps
 
 pub runs-after : {A T : Type 0} (old mid new : FilesView) (p q : Process A) (result : Result T PrepError) (done : T → A) (log : Log) →
     Reaches old mid p q → Runs mid new q result done log → Runs old new p result done log

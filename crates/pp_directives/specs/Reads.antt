@@ -20,7 +20,7 @@ Answers old new name Failed = ⊥
 -- the files after these reads
 abbrev pub Reads : FilesView → List Asked → FilesView → Type 0
 Reads old [] new = new ≡ old
-Reads old (a ∷ as) new = (mid : FilesView) × ReadKeeps old mid × Answers old mid a.name a.answer × Reads mid as new
+Reads old (a ∷ more) new = (mid : FilesView) × ReadKeeps old mid × Answers old mid a.name a.answer × Reads mid more new
 
 -- the files after so many reads
 abbrev pub ReadsKeep : FilesView → ℕ → FilesView → Type 0

@@ -17,15 +17,16 @@ mod options;
 mod output;
 mod parts;
 mod pragmas;
-mod preprocess;
+
 mod search;
 mod sources;
 mod taking;
 mod unit;
+mod whole;
 
 pub use c_model::directives::ReadCause;
 pub use errors::PrepError;
 pub use lists::{Marks, Notes};
 pub use log::PrepLog;
 pub use options::Options;
-pub use preprocess::{Prep, preprocess};
+pub use whole::{Prep, preprocess};

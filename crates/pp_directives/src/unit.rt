@@ -1,5 +1,5 @@
 //! The state that the lines of a unit change.
-ghost use Rattle.std.specs.Prelude.{◌≡◌, ◌++◌, ◌∷◌, ◌<◌, [], ℕ, map, length, slice_get, Some, None, is_none, IfOk, OnOk};
+ghost use Rattle.std.specs.Prelude.{◌≡◌, ◌++◌, ◌∷◌, ◌<◌, ◌≤◌, [], ℕ, map, length, slice_get, Some, None, is_none, IfOk, OnOk};
 ghost use Rattle.std.specs.Option.{option_map};
 ghost use Rattle.c_model.specs.Macros as macros;
 ghost use Rattle.c_model.specs.PreprocessedUnit as whole;
