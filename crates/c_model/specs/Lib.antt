@@ -135,3 +135,16 @@ pub mod ConditionBuilt
 pub mod ConditionReading
 pub mod Judgement
 pub mod Conditions
+pub mod Directives
+pub mod Conditionals
+pub mod Pragmas
+pub mod Includes
+pub mod Headers
+pub mod Processes
+pub mod Sources
+pub mod ControlLines
+pub mod ConditionalLines
+pub mod Preprocessing
+pub mod FileSearch
+pub mod Included
+pub mod PreprocessedUnit

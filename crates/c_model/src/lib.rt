@@ -7,11 +7,13 @@
 pub mod condition_laws;
 pub mod conditions;
 pub mod constants;
+pub mod directives;
 pub mod examples;
 pub mod first_tokens;
 pub mod flow;
 pub mod grammar;
 pub mod grammar_laws;
+pub mod headers;
 pub mod laws;
 pub mod macros;
 pub mod marks;
