@@ -117,3 +117,12 @@ pub mod ExpansionSteps
 pub mod ExpansionRules
 pub mod ExpansionTotal
 pub mod ExpansionFunction
+pub mod Declarations
+pub mod Scopes
+pub mod Binding
+pub mod CompositeTypes
+pub mod SameTypedefs
+pub mod BuiltInTypes
+pub mod DeclarationRules
+pub mod Declaring
+pub mod NotedUses

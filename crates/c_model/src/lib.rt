@@ -5,6 +5,7 @@
 #![tactic(auto)]
 
 pub mod constants;
+pub mod declarations;
 pub mod examples;
 pub mod first_tokens;
 pub mod flow;

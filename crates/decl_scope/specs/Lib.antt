@@ -1,0 +1,2 @@
+pub mod DeclarationCode
+pub mod Values

@@ -1,0 +1,16 @@
+//! Names: the scopes of a unit, the ids of what is declared in them, and the rules of declarations.
+#![tactic(auto)]
+
+mod around;
+mod composites;
+mod declared;
+mod entry;
+mod errors;
+mod level;
+mod names;
+mod table;
+
+pub use c_model::declarations::{Kind, Linkage};
+pub use c_model::marks::DeclId;
+pub use entry::Entry;
+pub use errors::ScopeError;
