@@ -45,15 +45,16 @@ has_prefix name = same_text (take (length prefix) name) prefix
 -- ---- C02: the name is declared in the scope and name space already, and not both declarations have
 -- linkage, are of types or are of tags
 
+-- what the innermost scope declares under the name already
+abbrev pub standing : Declaration → Scopes → Option Declared
+standing d s = declared_as (here (is_tag d.kind) d.name s) s
+
 abbrev pub may_repeat : Declaration → Declaration → Bool
 may_repeat old d = (has_linkage old && has_linkage d) || (is_typedef old.kind && is_typedef d.kind) || (is_tag old.kind && is_tag d.kind)
 
 abbrev pub clashes_with : Declaration → Option Declared → Bool
 clashes_with d None = false
 clashes_with d (Some old) = not (may_repeat old.latest d)
-
-abbrev pub clashes : Declaration → Scopes → Bool
-clashes d s = clashes_with d (declared_as (here (is_tag d.kind) d.name s) s)
 
 -- ---- C03: the type isn't compatible with that of an earlier declaration with linkage, or not the same
 -- as that of the type's name
@@ -112,15 +113,18 @@ rebuilds d = is_otherwise d (built_in_type d.name)
 
 -- ---- the smallest rule that a declaration breaks, at the place of its name
 
-abbrev pub broken_rule : Declaration → Scopes → Option ℕ
-broken_rule d s =
+abbrev pub broken_by : Declaration → (standing earlier : Option Declared) → Option ℕ
+broken_by d standing earlier =
     if has_prefix d.name then Some 1
-    else if clashes d s then Some 2
-    else if differs d (earlier d s) then Some 3
-    else if links_otherwise d (earlier d s) then Some 4
-    else if retags d (earlier d s) then Some 6
+    else if clashes_with d standing then Some 2
+    else if differs d earlier then Some 3
+    else if links_otherwise d earlier then Some 4
+    else if retags d earlier then Some 6
     else if rebuilds d then Some 7
     else None
+
+abbrev pub broken_rule : Declaration → Scopes → Option ℕ
+broken_rule d s = broken_by d (standing d s) (earlier d s)
 
 -- a rule of the family C at a place
 abbrev pub constraint_at : Place → ℕ → Fault

@@ -1,2 +1,4 @@
 pub mod DeclarationCode
 pub mod Values
+pub mod Parameters
+pub mod Later

@@ -1,6 +1,7 @@
 //! A declaration of a name.
-ghost use Rattle.std.specs.Prelude.{◌≡◌};
+ghost use Rattle.std.specs.Prelude.{◌≡◌, ◌&&◌};
 ghost use Rattle.c_model.specs.Declarations as m;
+ghost use Rattle.c_model.specs.NotedUses as u;
 
 use c_model::declarations::{Kind, Linkage};
 use c_model::numbers::Const;
@@ -91,6 +92,13 @@ impl Entry {
         }
     }
 
+    /// Whether the declaration is one of a function with internal linkage.
+    pub fn is_internal_function(&self) -> bool
+        ensures { result ≡ (u.is_function_kind self.now.kind && u.is_internal self.now.linkage) }
+    {
+        is_internal_function(self.kind, self.linkage)
+    }
+
     /// Whether the declaration is one of a name of a type.
     pub fn is_typedef(&self) -> bool
         ensures { result ≡ m.is_typedef self.now.kind }
@@ -103,4 +111,11 @@ impl Entry {
             Kind::Tag => false,
         }
     }
+}
+
+/// Whether a declaration of this kind and linkage is one of an internal function.
+fn is_internal_function(kind: Kind, linkage: Linkage) -> bool
+    ensures { result ≡ (u.is_function_kind kind && u.is_internal linkage) }
+{
+    kind == Kind::Function && linkage == Linkage::Internal
 }

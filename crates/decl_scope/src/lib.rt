@@ -9,6 +9,7 @@ mod errors;
 mod level;
 mod names;
 mod table;
+mod typedefs;
 
 pub use c_model::declarations::{Kind, Linkage};
 pub use c_model::marks::DeclId;
