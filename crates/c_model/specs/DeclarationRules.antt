@@ -113,15 +113,16 @@ rebuilds d = is_otherwise d (built_in_type d.name)
 
 -- ---- the smallest rule that a declaration breaks, at the place of its name
 
-abbrev pub broken_by : Declaration → (standing earlier : Option Declared) → Option ℕ
-broken_by d standing earlier =
-    if has_prefix d.name then Some 1
-    else if clashes_with d standing then Some 2
-    else if differs d earlier then Some 3
+abbrev pub broken_later : Declaration → (earlier : Option Declared) → Option ℕ
+broken_later d earlier =
+    if differs d earlier then Some 3
     else if links_otherwise d earlier then Some 4
     else if retags d earlier then Some 6
     else if rebuilds d then Some 7
     else None
+
+abbrev pub broken_by : Declaration → (standing earlier : Option Declared) → Option ℕ
+broken_by d standing earlier = if has_prefix d.name then Some 1 else if clashes_with d standing then Some 2 else broken_later d earlier
 
 abbrev pub broken_rule : Declaration → Scopes → Option ℕ
 broken_rule d s = broken_by d (standing d s) (earlier d s)

@@ -1,2 +1,3 @@
 pub mod BoundLaws
-pub mod LevelLaws
+pub mod TableLaws
+pub mod ParameterLaws

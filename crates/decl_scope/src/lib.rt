@@ -2,12 +2,14 @@
 #![tactic(auto)]
 
 mod around;
+mod built_ins;
 mod composites;
 mod declared;
 mod entry;
 mod errors;
 mod level;
 mod names;
+mod rules;
 mod table;
 mod typedefs;
 
