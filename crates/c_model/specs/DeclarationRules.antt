@@ -20,15 +20,18 @@ use Rattle.c_model.specs.Binding.{bound, here, declared_as}
 
 -- the id that a declaration shares with an earlier one: those of one name with linkage have one id, and
 -- so have those of one tag, or of one name of a type, in one scope
-abbrev pub shared_by : Kind → Bool → List ℕ → Scopes → Option ℕ
-shared_by Object linked name s = if linked then bound name s.linked else None
-shared_by Function linked name s = if linked then bound name s.linked else None
-shared_by TypeName linked name s = here false name s
-shared_by Enumerator linked name s = None
-shared_by Tag linked name s = here true name s
+abbrev pub linked_id : Declaration → Scopes → Option ℕ
+linked_id d s = if has_linkage d then bound d.name s.linked else None
+
+abbrev pub shared_by : Kind → Declaration → Scopes → Option ℕ
+shared_by Object d s = linked_id d s
+shared_by Function d s = linked_id d s
+shared_by TypeName d s = here false d.name s
+shared_by Enumerator d s = None
+shared_by Tag d s = here true d.name s
 
 abbrev pub shared_id : Declaration → Scopes → Option ℕ
-shared_id d s = shared_by d.kind (has_linkage d) d.name s
+shared_id d s = shared_by d.kind d s
 
 -- what is declared already under the id that a declaration shares
 abbrev pub earlier : Declaration → Scopes → Option Declared

@@ -92,6 +92,15 @@ impl Entry {
         }
     }
 
+    /// The same declaration with another type.
+    pub fn with_type(self, ty: CType) -> Entry
+        ensures { result ≡ record self { ty = ty } }
+    {
+        let mut entry = self;
+        entry.ty = ty;
+        entry
+    }
+
     /// Whether the declaration is one of a function with internal linkage.
     pub fn is_internal_function(&self) -> bool
         ensures { result ≡ (u.is_function_kind self.now.kind && u.is_internal self.now.linkage) }

@@ -7,9 +7,11 @@ mod composites;
 mod declared;
 mod entry;
 mod errors;
+mod joining;
 mod level;
 mod names;
 mod rules;
+mod scopes;
 mod table;
 mod typedefs;
 
@@ -17,3 +19,4 @@ pub use c_model::declarations::{Kind, Linkage};
 pub use c_model::marks::DeclId;
 pub use entry::Entry;
 pub use errors::ScopeError;
+pub use scopes::Scopes;
