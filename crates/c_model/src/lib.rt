@@ -23,4 +23,5 @@ pub mod runs;
 pub mod steps;
 pub mod token_laws;
 pub mod tokens;
+pub mod typed_examples;
 pub mod types;
