@@ -1,6 +1,6 @@
 -- The constraints on a declaration of a name where others stand (ISO/IEC 9899:2024, 6.2.2, 6.2.7, 6.7,
 -- 6.7.3.4), and the smallest rule that a declaration breaks.
-use Rattle.std.specs.Prelude.{ℕ, nat_eq, Bool, true, false, ◌&&◌, ◌||◌, not, if◌then◌else◌, List, [], ◌∷◌, length, take, Option, Some, None, codes}
+use Rattle.std.specs.Prelude.{ℕ, nat_eq, Bool, true, false, ◌&&◌, ◌||◌, not, if◌then◌else◌, List, [], ◌∷◌, length, take, Option, Some, None, option_map, codes}
 use Rattle.cake_base.specs.declared.places.Place.{Place}
 use Rattle.cake_base.specs.declared.rules.Fault.{Fault}
 use Rattle.cake_base.specs.declared.rules.Family.TheVariants.{C}
@@ -13,7 +13,7 @@ use Rattle.c_model.specs.Types.{CType, form_of_type}
 use Rattle.c_model.specs.Compatible.{compatible, same_bool}
 use Rattle.c_model.specs.Macros.{same_text}
 use Rattle.c_model.specs.SameTypedefs.{same_typedef}
-use Rattle.c_model.specs.BuiltInTypes.{built_in_type}
+use Rattle.c_model.specs.BuiltinTypes.{builtin_named, declared_type}
 use Rattle.c_model.specs.Declarations.{Declaration, is_tag, is_typedef, linkage_of, has_linkage, is_present}
 use Rattle.c_model.specs.Scopes.{Declared, Scopes}
 use Rattle.c_model.specs.Binding.{bound, here, declared_as}
@@ -110,6 +110,10 @@ is_external External = true
 abbrev pub is_otherwise : Declaration → Option CType → Bool
 is_otherwise d None = false
 is_otherwise d (Some t) = has_linkage d && (d.defines || not (is_external (linkage_of d)) || not (compatible t d.ty))
+
+-- the type of the built-in function of a name
+abbrev pub built_in_type : List ℕ → Option CType
+built_in_type name = option_map declared_type (builtin_named name)
 
 abbrev pub rebuilds : Declaration → Bool
 rebuilds d = is_otherwise d (built_in_type d.name)

@@ -130,7 +130,6 @@ pub mod Scopes
 pub mod Binding
 pub mod CompositeTypes
 pub mod SameTypedefs
-pub mod BuiltInTypes
 pub mod DeclarationRules
 pub mod Declaring
 pub mod NotedUses

@@ -1,7 +1,11 @@
 //! The built-in functions and their types.
 ghost use Rattle.std.specs.Prelude.{◌≡◌, IfOk, [], ◌∷◌, false};
 ghost use Rattle.c_model.specs.Types as t;
-ghost use Rattle.c_model.specs.BuiltInTypes as m;
+ghost use Rattle.c_model.specs.CoreTypes as p;
+ghost use Rattle.c_model.specs.SourceCalls as s;
+ghost use Rattle.c_model.specs.Allocation as f;
+ghost use Rattle.c_model.specs.BuiltinTypes as m;
+ghost use Rattle.c_model.specs.DeclarationRules as r;
 ghost use Rattle.c_types.specs.Forms.{form_of};
 
 use c_model::numbers::Basic;
@@ -25,26 +29,26 @@ fn quals(owner: bool) -> Quals
 
 /// An unqualified type.
 fn plain(alloc: Global, form: TypeForm) -> Result<CType, NoMemory>
-    ensures { IfOk result (λ made. made ≡ t.typed (form_of form) m.no_quals) }
+    ensures { IfOk result (λ made. made ≡ p.plain (form_of form)) }
 {
     CType::new(alloc, form, quals(false))
 }
 
 fn size_type(alloc: Global) -> Result<CType, NoMemory>
-    ensures { IfOk result (λ made. made ≡ m.size_type) }
+    ensures { IfOk result (λ made. made ≡ s.size_type) }
 {
     plain(alloc, TypeForm::Integer(Basic::UnsignedLong))
 }
 
 fn status_type(alloc: Global) -> Result<CType, NoMemory>
-    ensures { IfOk result (λ made. made ≡ t.typed (t.Integer Basic.Int) m.no_quals) }
+    ensures { IfOk result (λ made. made ≡ p.plain (t.Integer Basic.Int)) }
 {
     plain(alloc, TypeForm::Integer(Basic::Int))
 }
 
 /// `void *_Owner _Opt`.
 fn block_type(alloc: Global) -> Result<CType, NoMemory>
-    ensures { IfOk result (λ made. made ≡ m.block_type) }
+    ensures { IfOk result (λ made. made ≡ m.owned_pointer) }
 {
     let target = plain(alloc, TypeForm::Void)?;
     CType::new(alloc, TypeForm::Pointer(target), quals(true))
@@ -64,20 +68,20 @@ fn function_type(
     answer: CType,
     parameters: TypeList,
 ) -> Result<CType, NoMemory>
-    ensures { IfOk result (λ made. made ≡ m.function_type answer parameters) }
+    ensures { IfOk result (λ made. made ≡ s.function_type answer (t.types parameters)) }
 {
     plain(alloc, TypeForm::Function(answer, parameters, false))
 }
 
 fn malloc_type(alloc: Global) -> Result<CType, NoMemory>
-    ensures { IfOk result (λ made. made ≡ m.function_type m.block_type (m.size_type ∷ [])) }
+    ensures { IfOk result (λ made. made ≡ m.declared_type f.Malloc) }
 {
     let parameters = one_parameter(alloc, size_type(alloc)?)?;
     function_type(alloc, block_type(alloc)?, parameters)
 }
 
 fn calloc_type(alloc: Global) -> Result<CType, NoMemory>
-    ensures { IfOk result (λ made. made ≡ m.function_type m.block_type (m.size_type ∷ m.size_type ∷ [])) }
+    ensures { IfOk result (λ made. made ≡ m.declared_type f.Calloc) }
 {
     let mut parameters = one_parameter(alloc, size_type(alloc)?)?;
     parameters.push(size_type(alloc)?)?;
@@ -86,21 +90,21 @@ fn calloc_type(alloc: Global) -> Result<CType, NoMemory>
 
 /// The type of a function that gives nothing.
 fn procedure_type(alloc: Global, parameters: TypeList) -> Result<CType, NoMemory>
-    ensures { IfOk result (λ made. made ≡ m.function_type m.nothing_type parameters) }
+    ensures { IfOk result (λ made. made ≡ s.function_type (p.plain t.Void) (t.types parameters)) }
 {
     let nothing = plain(alloc, TypeForm::Void)?;
     function_type(alloc, nothing, parameters)
 }
 
 fn free_type(alloc: Global) -> Result<CType, NoMemory>
-    ensures { IfOk result (λ made. made ≡ m.function_type m.nothing_type (m.block_type ∷ [])) }
+    ensures { IfOk result (λ made. made ≡ m.declared_type f.Free) }
 {
     let parameters = one_parameter(alloc, block_type(alloc)?)?;
     procedure_type(alloc, parameters)
 }
 
 fn exit_type(alloc: Global) -> Result<CType, NoMemory>
-    ensures { IfOk result (λ made. made ≡ m.function_type m.nothing_type (t.typed (t.Integer Basic.Int) m.no_quals ∷ [])) }
+    ensures { IfOk result (λ made. made ≡ m.declared_type f.Exit) }
 {
     let parameters = one_parameter(alloc, status_type(alloc)?)?;
     procedure_type(alloc, parameters)
@@ -108,21 +112,21 @@ fn exit_type(alloc: Global) -> Result<CType, NoMemory>
 
 /// The type of the built-in function of that name, if it is one (7.24.3, 7.24.4).
 pub fn built_in_type(alloc: Global, name: &[u8]) -> Result<Option<CType>, NoMemory>
-    ensures { IfOk result (λ found. found ≡ m.built_in_type name.now) }
+    ensures { IfOk result (λ found. found ≡ r.built_in_type name.now) }
 {
-    if name == b"malloc".as_slice() {
+    if b"malloc".as_slice() == name {
         return Ok(Some(malloc_type(alloc)?));
     }
-    if name == b"calloc".as_slice() {
+    if b"calloc".as_slice() == name {
         return Ok(Some(calloc_type(alloc)?));
     }
-    if name == b"free".as_slice() {
+    if b"free".as_slice() == name {
         return Ok(Some(free_type(alloc)?));
     }
-    if name == b"exit".as_slice() {
+    if b"exit".as_slice() == name {
         return Ok(Some(exit_type(alloc)?));
     }
-    if name == b"abort".as_slice() {
+    if b"abort".as_slice() == name {
         return Ok(Some(procedure_type(alloc, TypeList::new(alloc))?));
     }
     Ok(None)

@@ -6,6 +6,7 @@ ghost use Rattle.c_model.specs.Declarations as d;
 ghost use Rattle.c_model.specs.Scopes as m;
 ghost use Rattle.c_model.specs.Declaring as j;
 ghost use Rattle.c_model.specs.Binding as b;
+ghost use Rattle.decl_scope.specs.Later.{taken};
 
 use crate::composites::{composite, with_length};
 use crate::declared::Declared;
@@ -161,6 +162,23 @@ fn types_if_any(
     }
 }
 
+/// Takes a later declaration of an id with that type. On refusal nothing has changed.
+fn take_again(
+    innermost: &mut Level,
+    table: &mut Table,
+    entry: Entry,
+    before: Option<CType>,
+    id: u32,
+) -> Result<(), NoMemory>
+    ensures ok { OnOk result ((innermost.new ≡ j.naming (d.is_tag entry.kind) entry.name id innermost.old) × (table.new ≡ m.changed (taken entry before innermost.old.number) id table.old)) }
+    ensures err { OnErr result ((innermost.new ≡ innermost.old) × (table.new ≡ table.old)) }
+{
+    let scope = innermost.number();
+    innermost.declare(entry.is_tag(), entry.name.as_slice(), id)?;
+    table.take(id, entry, before, scope);
+    Ok(())
+}
+
 /// Takes a later declaration of an id. On refusal nothing has changed.
 pub fn declare_again(
     alloc: Global,
@@ -173,7 +191,5 @@ pub fn declare_again(
     ensures err { OnErr result ((innermost.new ≡ innermost.old) × (table.new ≡ table.old)) }
 {
     let (ty, before) = types_if_any(alloc, &entry, table.get(id))?;
-    innermost.declare(entry.is_tag(), entry.name.as_slice(), id)?;
-    table.take(id, entry.with_type(ty), before, innermost.number());
-    Ok(())
+    take_again(innermost, table, entry.with_type(ty), before, id)
 }
