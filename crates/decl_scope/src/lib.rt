@@ -20,3 +20,6 @@ pub use c_model::marks::DeclId;
 pub use entry::Entry;
 pub use errors::ScopeError;
 pub use scopes::Scopes;
+
+#[cfg(test)]
+mod tests;

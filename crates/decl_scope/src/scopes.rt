@@ -117,6 +117,13 @@ impl Scopes {
         unnest(&mut self.innermost, &mut self.around);
     }
 
+    /// Whether the innermost scope is that of the file.
+    pub fn is_file_scope(&self) -> bool
+        ensures { result ≡ m.is_outermost self.now.around }
+    {
+        self.around.is_empty()
+    }
+
     /// Declares a name in the innermost scope.
     ///
     /// The fault is the smallest of C01 to C04, C06 and C07 that the declaration breaks, at the place of
