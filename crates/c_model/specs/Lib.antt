@@ -148,3 +148,11 @@ pub mod Preprocessing
 pub mod FileSearch
 pub mod Included
 pub mod PreprocessedUnit
+pub mod Declarations
+pub mod Scopes
+pub mod Binding
+pub mod CompositeTypes
+pub mod SameTypedefs
+pub mod DeclarationRules
+pub mod Declaring
+pub mod NotedUses

@@ -8,6 +8,7 @@ pub mod condition_laws;
 pub mod conditions;
 pub mod constants;
 pub mod directives;
+pub mod declarations;
 pub mod examples;
 pub mod first_tokens;
 pub mod flow;
