@@ -117,3 +117,5 @@ pub mod ExpansionSteps
 pub mod ExpansionRules
 pub mod ExpansionTotal
 pub mod ExpansionFunction
+pub mod CoreNodes
+pub mod ProgramNodes89
