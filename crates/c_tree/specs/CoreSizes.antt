@@ -1,7 +1,7 @@
 -- How many nodes a part of a core has, each cell of a list counted: the measure of a recursion over nodes.
 use Rattle.std.specs.Prelude.{ℕ, ◌+◌}
 use Rattle.c_model.specs.Core as m
-use Rattle.c_model.specs.CoreNodes.{Initial}
+use Rattle.c_model.specs.CoreNodes.{Initial, Case, CaseLabel, DefaultLabel, Statement}
 
 abbrev mutual
   pub expr_nodes : m.Expr → ℕ
@@ -38,3 +38,38 @@ abbrev mutual
 
 abbrev pub initial_nodes : Initial → ℕ
 initial_nodes i = 1 + expr_nodes i.value
+
+-- of statements, their expressions aside
+abbrev mutual
+  pub stat_nodes : m.Stat → ℕ
+  stat_nodes (m.Evaluate value span) = 1
+  stat_nodes (m.Start id type values mark) = 1
+  stat_nodes (m.Block objects body span) = 1 + stats_nodes body
+  stat_nodes (m.If condition first second span) = 1 + stat_nodes first + maybe_stat_nodes second
+  stat_nodes (m.Switch value objects body span) = 1 + cases_nodes body
+  stat_nodes (m.While condition body span) = 1 + stat_nodes body
+  stat_nodes (m.DoWhile body condition span) = 1 + stat_nodes body
+  stat_nodes (m.For first condition step body span) = 1 + stat_nodes body
+  stat_nodes (m.Break place) = 1
+  stat_nodes (m.Continue place) = 1
+  stat_nodes (m.Return value place) = 1
+  stat_nodes (m.Defer body place span) = 1 + stat_nodes body
+
+  pub stats_nodes : m.Stats → ℕ
+  stats_nodes m.no_stats = 0
+  stats_nodes (m.more_stats first others) = 1 + stat_nodes first + stats_nodes others
+
+  pub maybe_stat_nodes : m.MaybeStat → ℕ
+  maybe_stat_nodes m.no_stat = 0
+  maybe_stat_nodes (m.a_stat stat) = stat_nodes stat
+
+  pub cases_nodes : m.Cases → ℕ
+  cases_nodes m.no_cases = 0
+  cases_nodes (m.a_case value place others) = 2 + cases_nodes others
+  cases_nodes (m.a_default place others) = 2 + cases_nodes others
+  cases_nodes (m.a_stat_then stat others) = 2 + stat_nodes stat + cases_nodes others
+
+abbrev pub case_nodes : Case → ℕ
+case_nodes (CaseLabel value place) = 1
+case_nodes (DefaultLabel place) = 1
+case_nodes (Statement stat) = 1 + stat_nodes stat

@@ -156,12 +156,7 @@ fn difference_type(alloc: Global, left: &CType, right: &CType) -> Result<CType, 
     }
 }
 
-fn binary_type(
-    alloc: Global,
-    op: BinOp,
-    left: &CType,
-    right: &CType,
-) -> Result<CType, NoMemory>
+fn binary_type(alloc: Global, op: BinOp, left: &CType, right: &CType) -> Result<CType, NoMemory>
     ensures { IfOk result (λ made. made ≡ m.binary_type op left.now right.now) }
 {
     if is_comparison(op) {
@@ -184,7 +179,10 @@ pub fn expr_type(alloc: Global, form: &CoreExprForm) -> Result<CType, NoMemory>
         CoreExprForm::FunctionRef { ty, .. } => pointer_to(alloc, ty),
         CoreExprForm::Unary { op, operand, .. } => unary_type(alloc, *op, operand.ty()),
         CoreExprForm::Binary {
-            op, left, right, ..
+            op,
+            left,
+            right,
+            ..
         } => binary_type(alloc, *op, left.ty(), right.ty()),
         CoreExprForm::Logic { .. } => plain(alloc, TypeForm::Integer(Basic::Int)),
         CoreExprForm::Choice { first, .. } => first.ty().copy(alloc),
