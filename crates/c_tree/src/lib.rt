@@ -3,6 +3,8 @@
 
 mod core_exprs;
 mod core_stats;
+#[cfg(test)]
+mod core_tests;
 mod core_types;
 mod core_unit;
 mod unit_exprs;

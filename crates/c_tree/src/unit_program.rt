@@ -1,6 +1,7 @@
 //! Structures, outer declarations, functions and the whole of a C89 program, behind counted references: to copy
 //! one costs nothing.
 ghost use Rattle.std.specs.Prelude.{◌≡◌, IfOk, length};
+ghost use Rattle.c_model.specs.Program89 as m;
 ghost use Rattle.c_tree.specs.UnitProgramForms.{structure_of, outer_of, function_of, program_of, object_count_of};
 ghost use Rattle.c_tree.specs.UnitTrees.{structure_tree, outer_tree, function_tree, program_tree};
 
@@ -97,6 +98,7 @@ impl Model for OutStructure {
 
     ghost coded = { coded_structure };
 
+    ghost use Rattle.c_model.specs.Program89 as m;
     ghost use Rattle.c_tree.specs.UnitProgramForms.{structure_of};
 
     ghost view = { λ a. structure_of a.form.value };
@@ -110,6 +112,7 @@ impl Model for OutOuter {
 
     ghost coded = { coded_outer };
 
+    ghost use Rattle.c_model.specs.Program89 as m;
     ghost use Rattle.c_tree.specs.UnitProgramForms.{outer_of};
 
     ghost view = { λ a. outer_of a.form.value };
@@ -123,6 +126,7 @@ impl Model for OutFunction {
 
     ghost coded = { coded_function };
 
+    ghost use Rattle.c_model.specs.Program89 as m;
     ghost use Rattle.c_tree.specs.UnitProgramForms.{function_of};
 
     ghost view = { λ a. function_of a.form.value };
@@ -136,6 +140,7 @@ impl Model for C89Unit {
 
     ghost coded = { coded_program };
 
+    ghost use Rattle.c_model.specs.Program89 as m;
     ghost use Rattle.c_tree.specs.UnitProgramForms.{program_of};
 
     ghost view = { λ a. program_of a.form.value };
@@ -196,6 +201,15 @@ impl OutOuter {
             Ok(form) => Ok(OutOuter { form }),
             Err(_) => Err(NoMemory),
         }
+    }
+}
+
+impl OutOuter {
+    /// Whether it declares an object, and no function.
+    pub fn is_object(&self) -> bool
+        ensures { result ≡ m.is_object (outer_tree self.now).type }
+    {
+        self.form.ty.is_object()
     }
 }
 
@@ -262,4 +276,21 @@ impl C89Unit {
     {
         self.form.functions.len()
     }
+
+    /// The number of its declarations of objects outside of functions.
+    pub fn object_count(&self) -> usize
+        ensures { result ≡ object_count_of (program_tree self.now).outers }
+    {
+        object_count(self.form.outers.as_slice())
+    }
+}
+
+fn object_count(outers: &[OutOuter]) -> usize
+    ensures { result ≡ object_count_of outers.now }
+{
+    let mut count = 0;
+    for outer in outers {
+        count += outer.is_object() as usize;
+    }
+    count
 }

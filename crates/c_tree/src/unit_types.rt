@@ -1,5 +1,6 @@
 //! Types and declarations of a C89 program, behind counted references: to copy one costs nothing.
 ghost use Rattle.std.specs.Prelude.{◌≡◌, IfOk};
+ghost use Rattle.c_model.specs.Program89 as m;
 ghost use Rattle.c_tree.specs.UnitTypeForms.{type_of, declaration_of};
 ghost use Rattle.c_tree.specs.UnitTrees.{type_tree, declaration_tree};
 
@@ -128,6 +129,20 @@ impl OutType {
         match self.form.clone() {
             Ok(form) => Ok(OutType { form }),
             Err(_) => Err(NoMemory),
+        }
+    }
+}
+
+impl OutType {
+    /// Whether it is that of an object, and of no function.
+    pub fn is_object(&self) -> bool
+        ensures { result ≡ m.is_object (type_tree self.now) }
+    {
+        match self.form() {
+            OutTypeForm::Based { .. } => true,
+            OutTypeForm::Pointer { .. } => true,
+            OutTypeForm::Array { .. } => true,
+            OutTypeForm::Function { .. } => false,
         }
     }
 }
