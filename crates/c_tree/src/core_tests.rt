@@ -25,20 +25,20 @@ const PLAIN: Quals = Quals {
     has_opt: false,
 };
 
-const HERE: Place = Place {
+pub const HERE: Place = Place {
     file: 0,
     line: 1,
     column: 1,
     order: 0,
 };
 
-const MARK: Mark = Mark {
+pub const MARK: Mark = Mark {
     at: HERE,
     first: HERE,
     outer: HERE,
 };
 
-fn int(alloc: Global) -> Result<CType, NoMemory>
+pub fn int(alloc: Global) -> Result<CType, NoMemory>
     ensures { IfOk result (λ made. made ≡ int_type) }
 {
     CType::new(alloc, TypeForm::Integer(Basic::Int), PLAIN)
@@ -51,7 +51,7 @@ fn structure(alloc: Global) -> Result<CType, NoMemory>
 }
 
 /// `int (void)`.
-fn function(alloc: Global) -> Result<CType, NoMemory>
+pub fn function(alloc: Global) -> Result<CType, NoMemory>
     ensures { IfOk result (λ made. made ≡ plain (t.Function int_type t.no_types Bool.false)) }
 {
     let result = int(alloc)?;
@@ -62,7 +62,7 @@ fn function(alloc: Global) -> Result<CType, NoMemory>
     )
 }
 
-fn number(alloc: Global, value: i128) -> Result<CoreExpr, NoMemory>
+pub fn number(alloc: Global, value: i128) -> Result<CoreExpr, NoMemory>
     requires { IsTrue (fits basic.Int value) }
     ensures { IfOk result (λ made. made ≡ m.Constant value int_type MARK) }
 {

@@ -2,6 +2,10 @@
 #![tactic(auto)]
 
 mod core_exprs;
+mod core_laws;
+mod core_marks;
+#[cfg(test)]
+mod core_stat_tests;
 mod core_stats;
 #[cfg(test)]
 mod core_tests;
@@ -10,6 +14,8 @@ mod core_unit;
 mod unit_exprs;
 mod unit_program;
 mod unit_stats;
+#[cfg(test)]
+mod unit_tests;
 mod unit_types;
 
 pub use c_model::marks::{DeclId, Mark, Origin, Span};
@@ -17,6 +23,7 @@ pub use core_exprs::{
     CoreAssignment, CoreExpr, CoreExprForm, CoreInitial, CoreInitialForm, CoreLvalue,
     CoreLvalueForm,
 };
+pub use core_laws::typed_core_has_typed_parts;
 pub use core_stats::{CoreCase, CoreCaseForm, CoreStat, CoreStatForm};
 pub use core_unit::{
     Core, CoreForm, CoreFunction, CoreFunctionForm, CoreFunctionName, CoreNamedType, CoreObject,
