@@ -29,3 +29,5 @@ pub mod Forget
 pub mod RegainPrimary
 pub mod PpNumberLaws
 pub mod LiteralLaws
+pub mod Releases
+pub mod FirstUnitTyped

@@ -28,6 +28,10 @@ pub mod SourceCalls
 pub mod TypedParts
 pub mod TypedExpr
 pub mod TypedStat
+pub mod PossibleTypes
+pub mod MemberTypes
+pub mod InitialParts
+pub mod BuiltinTypes
 pub mod TypedScope
 pub mod StaticValues
 pub mod SourceWords
@@ -63,10 +67,14 @@ pub mod Flat89
 pub mod WrittenType
 pub mod Translation
 pub mod GivenBlocks
+pub mod Tracked
+pub mod LvaluesIn
 pub mod Ownership
 pub mod ExampleParts
 pub mod Examples
 pub mod ExampleList
+pub mod ExampleReleases
+pub mod ExampleFaults
 pub mod ExampleTexts
 pub mod ExampleMemory
 pub mod FirstTokens

@@ -22,4 +22,5 @@ pub mod runs;
 pub mod steps;
 pub mod token_laws;
 pub mod tokens;
+pub mod typed_examples;
 pub mod types;
