@@ -28,11 +28,23 @@ fn plain(alloc: Global, form: TypeForm) -> Result<CType, NoMemory>
     CType::new(alloc, form, NO_QUALS)
 }
 
+/// The unqualified version of a type (ISO/IEC 9899:2024, 6.7.4.1): the qualifiers of an array are those of its
+/// elements.
 fn unqualified(alloc: Global, ty: &CType) -> Result<CType, NoMemory>
-    ensures made { IfOk result (λ made. made ≡ m.unqualified ty.now) }
-    ensures plain { IfOk result (λ made. made ≡ m.plain (form_of_type ty.now)) }
+    ensures { IfOk result (λ made. made ≡ m.unqualified ty.now) }
 {
-    ty.with_quals(alloc, NO_QUALS)
+    match ty.form() {
+        TypeForm::Array(of, count) => {
+            let of = unqualified(alloc, of)?;
+            plain(alloc, TypeForm::Array(of, *count))
+        }
+        TypeForm::Void
+        | TypeForm::Integer(_)
+        | TypeForm::Enum(_, _)
+        | TypeForm::Pointer(_)
+        | TypeForm::Struct(_)
+        | TypeForm::Function(_, _, _) => ty.with_quals(alloc, NO_QUALS),
+    }
 }
 
 fn pointer_to(alloc: Global, ty: &CType) -> Result<CType, NoMemory>
@@ -59,7 +71,7 @@ fn pointee(alloc: Global, ty: &CType) -> Result<CType, NoMemory>
         | TypeForm::Enum(_, _)
         | TypeForm::Array(_, _)
         | TypeForm::Struct(_)
-        | TypeForm::Function(_, _, _) => unqualified(alloc, ty),
+        | TypeForm::Function(_, _, _) => ty.with_quals(alloc, NO_QUALS),
     }
 }
 
