@@ -18,3 +18,19 @@ typed_stats_push [] s h k = both (is_typed_stat s) true k refl
 typed_stats_push (x ∷ xs) s h k =
     let p = and_parts (is_typed_stat x) (are_typed_stats (m.stats xs)) h in
     both (is_typed_stat x) (are_typed_stats (m.stats (xs ++ s ∷ []))) p.0 (typed_stats_push xs s p.1 k)
+
+pub typed_initials_push : (is : List Initial) (i : Initial) → are_typed_values (initials is) ≡ true → is_typed_initial i ≡ true → are_typed_values (initials (is ++ i ∷ [])) ≡ true
+typed_initials_push [] i h k = both (is_typed_initial i) true k refl
+typed_initials_push (x ∷ xs) i h k =
+    let p = and_parts (is_typed_initial x) (are_typed_values (initials xs)) h in
+    both (is_typed_initial x) (are_typed_values (initials (xs ++ i ∷ []))) p.0 (typed_initials_push xs i p.1 k)
+
+pub typed_cases_push : (cs : List Case) (c : Case) → are_typed_cases (cases cs) ≡ true → is_typed_case c ≡ true → are_typed_cases (cases (cs ++ c ∷ [])) ≡ true
+typed_cases_push [] (CaseLabel value place) h k = refl
+typed_cases_push [] (DefaultLabel place) h k = refl
+typed_cases_push [] (Statement stat) h k = both (is_typed_stat stat) true k refl
+typed_cases_push (CaseLabel value place ∷ cs) c h k = typed_cases_push cs c h k
+typed_cases_push (DefaultLabel place ∷ cs) c h k = typed_cases_push cs c h k
+typed_cases_push (Statement stat ∷ cs) c h k =
+    let p = and_parts (is_typed_stat stat) (are_typed_cases (cases cs)) h in
+    both (is_typed_stat stat) (are_typed_cases (cases (cs ++ c ∷ []))) p.0 (typed_cases_push cs c p.1 k)

@@ -1,6 +1,6 @@
 //! One statement, object and function of each form of the core, and a whole core, made, copied and read; a deep
 //! expression and a long block.
-ghost use Rattle.std.specs.Prelude.{◌≡◌, [], ◌∷◌, IfOk, IsTrue};
+ghost use Rattle.std.specs.Prelude.{◌≡◌, pos, [], ◌∷◌, IfOk, IsTrue};
 ghost use Rattle.c_model.specs.CoreTypes.{int_type, type_of};
 ghost use Rattle.c_model.specs.TypedExpr.{is_typed};
 ghost use Rattle.c_model.specs.TypedStat.{is_typed_stat, are_typed_stats};
@@ -32,7 +32,7 @@ fn evaluate(alloc: Global) -> Result<CoreStat, NoMemory> {
 }
 
 fn initial(alloc: Global) -> Result<CoreInitial, NoMemory>
-    ensures { IfOk result (λ made. made ≡ record { path = []; offset = 0; type = int_type; value = m.Constant 7 int_type MARK }) }
+    ensures { IfOk result (λ made. made ≡ record { path = []; offset = 0; type = int_type; value = m.Constant (pos 7) int_type MARK }) }
 {
     let ty = int(alloc)?;
     let value = number(alloc, 7)?;
@@ -78,7 +78,7 @@ fn lone_if(alloc: Global) -> Result<CoreStat, NoMemory> {
 }
 
 fn cases(alloc: Global) -> Result<Items<CoreCase>, NoMemory>
-    ensures { IfOk result (λ made. made ≡ n.CaseLabel 7 HERE ∷ n.DefaultLabel HERE ∷ n.Statement (m.Break HERE) ∷ []) }
+    ensures { IfOk result (λ made. made ≡ n.CaseLabel (pos 7) HERE ∷ n.DefaultLabel HERE ∷ n.Statement (m.Break HERE) ∷ []) }
 {
     let stat = leave(alloc)?;
     let mut made = Items::new(alloc);
@@ -188,6 +188,7 @@ fn breaks(alloc: Global, count: u32) -> Result<CoreStat, NoMemory> {
     )
 }
 
+#[tactic(auto, using(crate::proofs::CoreLists::typed_stats_push))]
 fn many(alloc: Global, count: u32) -> Result<Items<CoreStat>, NoMemory>
     ensures { IfOk result (λ made. IsTrue (are_typed_stats (m.stats made))) }
 {
@@ -281,7 +282,7 @@ fn reads_jumps(rt: HostRuntime) {
 #[test]
 fn deep_and_long(rt: HostRuntime) {
     let alloc = rt.alloc();
-    let made = deep(alloc, 2_500).expect(&rt, "memory");
+    let made = deep(alloc, 10_000).expect(&rt, "memory");
     let copy = made.copy(alloc).expect(&rt, "memory");
     assert!(rt;
         matches!(

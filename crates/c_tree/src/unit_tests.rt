@@ -309,7 +309,7 @@ fn breaks(alloc: Global, count: u32) -> Result<OutStats, NoMemory> {
 #[test]
 fn deep_and_long(rt: HostRuntime) {
     let alloc = rt.alloc();
-    let made = deep(alloc, 5_000).expect(&rt, "memory");
+    let made = deep(alloc, 10_000).expect(&rt, "memory");
     let copy = made.copy(alloc).expect(&rt, "memory");
     assert!(rt; matches!(copy.form(), OutExprForm::Unary { .. }));
     let made = breaks(alloc, 100_000).expect(&rt, "memory");
