@@ -156,3 +156,5 @@ pub mod SameTypedefs
 pub mod DeclarationRules
 pub mod Declaring
 pub mod NotedUses
+pub mod CoreNodes
+pub mod ProgramNodes89
