@@ -4,6 +4,12 @@ pub mod Conversions
 pub mod Types
 pub mod Structures
 pub mod TypesCode
+pub mod SyntaxForms
+pub mod SyntaxNodes
+pub mod SyntaxDepth
+pub mod SyntaxPlaces
+pub mod SyntaxLeafCode
+pub mod SyntaxCode
 pub mod Layout
 pub mod Compatible
 pub mod PpTokens

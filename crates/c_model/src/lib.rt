@@ -20,6 +20,7 @@ pub mod outcomes;
 pub mod positions;
 pub mod runs;
 pub mod steps;
+pub mod syntax;
 pub mod token_laws;
 pub mod tokens;
 pub mod types;
