@@ -55,9 +55,9 @@ spec_first (syntax.FunctionSpec word place) = place
 spec_first (syntax.TypeSpec word place) = place
 spec_first (syntax.QualifierSpec qualifier) = qualifier.place
 spec_first (syntax.StructTag tag place) = place
-spec_first (syntax.Struct tag members place) = place
+spec_first (syntax.Struct tag _ place) = place
 spec_first (syntax.EnumTag tag fixed place) = place
-spec_first (syntax.Enum tag fixed enumerators place) = place
+spec_first (syntax.Enum tag fixed _ place) = place
 spec_first (syntax.TypedefName name) = name.place
 spec_first (syntax.TypeofExpr word operand place) = place
 spec_first (syntax.TypeofType word name place) = place
@@ -78,10 +78,10 @@ star_or (first ∷ others) behind = Some first.star
 abbrev pub suffixes_first : syntax.Suffixes → Option Place
 suffixes_first syntax.no_suffixes = None
 suffixes_first (syntax.more_suffixes (syntax.ArraySuffix length place) others) = Some place
-suffixes_first (syntax.more_suffixes (syntax.FunctionSuffix parameters variadic place) others) = Some place
+suffixes_first (syntax.more_suffixes (syntax.FunctionSuffix _ variadic place) others) = Some place
 
 -- the first token of a declarator; none where it has no token
 abbrev pub declarator_first : syntax.Declarator → Option Place
-declarator_first (syntax.Named pointers name suffixes) = star_or pointers (Some name.place)
+declarator_first (syntax.Named pointers name _) = star_or pointers (Some name.place)
 declarator_first (syntax.Unnamed pointers suffixes) = star_or pointers (suffixes_first suffixes)
-declarator_first (syntax.Grouped pointers inner suffixes place) = star_or pointers (Some place)
+declarator_first (syntax.Grouped pointers inner _ place) = star_or pointers (Some place)

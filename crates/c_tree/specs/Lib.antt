@@ -1,0 +1,3 @@
+pub mod SyntaxViews
+pub mod SyntaxWords
+pub mod SyntaxFalls
