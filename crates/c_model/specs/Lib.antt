@@ -111,6 +111,11 @@ pub mod Preferences
 pub mod DepthPlace
 pub mod OpenPrimary
 pub mod TerminalsOf
+pub mod SyntaxValues
+pub mod SyntaxExprActions
+pub mod SyntaxDeclarationActions
+pub mod SyntaxStatementActions
+pub mod SyntaxActions
 pub mod Macros
 pub mod ReplacementLists
 pub mod MacroDefinitions

@@ -175,7 +175,7 @@ mutual
   pub data Assertion : Type 0 where
     asserted : (condition : Expr) (message : Option (List ℕ)) (place : Place) → Assertion
 
-  -- a statement (6.8), with its first and its last token
+  -- a statement (6.8), with its first token behind its attributes, and its last
   pub data Statement : Type 0 where
     ExpressionStatement : (value : MaybeExpr) (span : Span) → Statement
     CompoundStatement : (body : Block) (span : Span) → Statement
