@@ -5,11 +5,8 @@ pub mod Types
 pub mod Structures
 pub mod TypesCode
 pub mod SyntaxForms
-pub mod SyntaxNodes
 pub mod SyntaxDepth
 pub mod SyntaxPlaces
-pub mod SyntaxLeafCode
-pub mod SyntaxCode
 pub mod Layout
 pub mod Compatible
 pub mod PpTokens
@@ -128,3 +125,5 @@ pub mod ExpansionSteps
 pub mod ExpansionRules
 pub mod ExpansionTotal
 pub mod ExpansionFunction
+pub mod CoreNodes
+pub mod ProgramNodes89

@@ -88,7 +88,7 @@ abbrev mutual
 
   pub suffix_depth : Suffix → ℕ
   suffix_depth (ArraySuffix length place) = 1 + maybe_expr_depth length
-  suffix_depth (FunctionSuffix parameters variadic place) = 1 + parameters_depth parameters
+  suffix_depth (FunctionSuffix parameters is_variadic place) = 1 + parameters_depth parameters
 
   pub suffixes_depth : Suffixes → ℕ
   suffixes_depth no_suffixes = 0

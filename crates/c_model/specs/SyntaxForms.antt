@@ -112,7 +112,7 @@ mutual
   -- what makes an array or a function of a declarator (6.7.7.3, 6.7.7.4)
   pub data Suffix : Type 0 where
     ArraySuffix : (length : MaybeExpr) (place : Place) → Suffix
-    FunctionSuffix : (parameters : Parameters) (variadic : Bool) (place : Place) → Suffix
+    FunctionSuffix : (parameters : Parameters) (is_variadic : Bool) (place : Place) → Suffix
 
   pub data Suffixes : Type 0 where
     no_suffixes : Suffixes

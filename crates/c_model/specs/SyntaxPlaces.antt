@@ -78,7 +78,7 @@ star_or (first ∷ others) behind = Some first.star
 abbrev pub suffixes_first : syntax.Suffixes → Option Place
 suffixes_first syntax.no_suffixes = None
 suffixes_first (syntax.more_suffixes (syntax.ArraySuffix length place) others) = Some place
-suffixes_first (syntax.more_suffixes (syntax.FunctionSuffix _ variadic place) others) = Some place
+suffixes_first (syntax.more_suffixes (syntax.FunctionSuffix _ is_variadic place) others) = Some place
 
 -- the first token of a declarator; none where it has no token
 abbrev pub declarator_first : syntax.Declarator → Option Place

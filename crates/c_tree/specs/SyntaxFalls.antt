@@ -3,7 +3,7 @@ use Rattle.std.specs.Prelude.{ℕ, ◌+◌, ◌≤◌, max, List, [], ◌∷◌,
 use Rattle.std.proofs.Common.{arith}
 use denote.Param.Weighed.{most, w_this}
 use Rattle.c_model.specs.SyntaxForms as m
-use Rattle.c_model.specs.SyntaxNodes as n
+use Rattle.c_tree.specs.SyntaxSizes as n
 use Rattle.c_tree.specs.declared.syntax_expressions.ExprForm.{ExprForm}
 use Rattle.c_tree.specs.declared.syntax_expressions.ExprForm.TheVariants as expr_form
 use Rattle.c_tree.specs.declared.syntax_specifiers.TypeNameForm.{TypeNameForm}
@@ -159,7 +159,7 @@ most_parameters (x ∷ xs) = omega (arith, parameter_falls x, most_parameters xs
 pub suffix_falls : (x : Suffix) → deep-Suffix x ≤ n.suffix_nodes (suffix_of x)
 suffix_falls (suffix.Array None place) = omega arith
 suffix_falls (suffix.Array (Some length) place) = omega arith
-suffix_falls (suffix.Function parameters variadic place) = omega (arith, most_parameters parameters)
+suffix_falls (suffix.Function parameters is_variadic place) = omega (arith, most_parameters parameters)
 
 most_suffixes : (xs : List Suffix) → most (w_this.weight Suffix deep-Suffix) xs ≤ n.suffixes_nodes (suffixes_of xs)
 most_suffixes [] = omega arith

@@ -149,7 +149,7 @@ parameters_of (x ∷ xs) = m.more_parameters (parameter_of x) (parameters_of xs)
 
 abbrev pub suffix_of : Suffix → m.Suffix
 suffix_of (suffix.Array length place) = m.ArraySuffix (maybe_expr_of length) place
-suffix_of (suffix.Function parameters variadic place) = m.FunctionSuffix (parameters_of parameters) variadic place
+suffix_of (suffix.Function parameters is_variadic place) = m.FunctionSuffix (parameters_of parameters) is_variadic place
 
 abbrev pub suffixes_of : List Suffix → m.Suffixes
 suffixes_of [] = m.no_suffixes

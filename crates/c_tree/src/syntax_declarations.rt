@@ -2,7 +2,7 @@
 ghost use Rattle.std.specs.Prelude.{◌≡◌, IfOk};
 ghost use Rattle.c_model.specs.SyntaxDepth.{capped, declaration_depth};
 ghost use Rattle.c_tree.specs.SyntaxViews.{declaration_of};
-ghost use Rattle.c_tree.specs.SyntaxWords.{declaration_tree};
+ghost use Rattle.c_tree.specs.SyntaxTrees.{declaration_tree};
 
 use cake_base::{Bytes, NoMemory, Place};
 use crate::syntax_declarators::Declarator;
@@ -20,7 +20,10 @@ use std::rc::Rc;
 #[derive(Drop)]
 pub enum DeclarationForm {
     /// Specifiers, and declarators with their initializers.
-    Simple(Specs, Items<InitDeclarator>),
+    Simple {
+        specs: Specs,
+        declarators: Items<InitDeclarator>,
+    },
     Assertion(Assertion),
     /// Attributes alone, which declare nothing.
     Attributes,
@@ -54,9 +57,9 @@ pub struct Assertion {
 impl Model for Declaration {
     ghost use Rattle.std.specs.Prelude.{◌≡◌};
     ghost use Rattle.c_model.specs.SyntaxForms as m;
-    ghost use Rattle.c_model.specs.SyntaxNodes.{declaration_nodes};
+    ghost use Rattle.c_tree.specs.SyntaxSizes.{declaration_nodes};
     ghost use Rattle.c_model.specs.SyntaxDepth.{declaration_depth, capped};
-    ghost use Rattle.c_model.specs.SyntaxCode.{coded_declaration};
+    ghost use Rattle.c_tree.specs.SyntaxCode.{coded_declaration};
 
     ghost Value = { m.Declaration };
 

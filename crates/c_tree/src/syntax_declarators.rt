@@ -2,7 +2,7 @@
 ghost use Rattle.std.specs.Prelude.{◌≡◌, IfOk};
 ghost use Rattle.c_model.specs.SyntaxDepth.{capped, declarator_depth};
 ghost use Rattle.c_tree.specs.SyntaxViews.{declarator_of};
-ghost use Rattle.c_tree.specs.SyntaxWords.{declarator_tree};
+ghost use Rattle.c_tree.specs.SyntaxTrees.{declarator_tree};
 
 use c_model::syntax::{Name, Pointer};
 use cake_base::{NoMemory, Place};
@@ -20,11 +20,23 @@ use std::rc::Rc;
 #[derive(Drop)]
 pub enum DeclaratorForm {
     /// A declarator of a name.
-    Named(Items<Pointer>, Name, Items<Suffix>),
+    Named {
+        pointers: Items<Pointer>,
+        name: Name,
+        suffixes: Items<Suffix>,
+    },
     /// A declarator whose name is missing.
-    Unnamed(Items<Pointer>, Items<Suffix>),
+    Unnamed {
+        pointers: Items<Pointer>,
+        suffixes: Items<Suffix>,
+    },
     /// A declarator in parentheses, with the place of the `(`.
-    Grouped(Items<Pointer>, Declarator, Items<Suffix>, Place),
+    Grouped {
+        pointers: Items<Pointer>,
+        inner: Declarator,
+        suffixes: Items<Suffix>,
+        place: Place,
+    },
 }
 
 /// A declarator.
@@ -40,9 +52,16 @@ pub struct Declarator {
 #[derive(Drop)]
 pub enum Suffix {
     /// An array, with its length where it has one.
-    Array(Option<Expr>, Place),
+    Array {
+        length: Option<Expr>,
+        place: Place,
+    },
     /// A function with its parameters, and whether `...` stands behind them.
-    Function(Items<Parameter>, bool, Place),
+    Function {
+        parameters: Items<Parameter>,
+        is_variadic: bool,
+        place: Place,
+    },
 }
 
 /// A parameter (6.7.7.4), with the place of its first token.
@@ -57,9 +76,9 @@ pub struct Parameter {
 impl Model for Declarator {
     ghost use Rattle.std.specs.Prelude.{◌≡◌};
     ghost use Rattle.c_model.specs.SyntaxForms as m;
-    ghost use Rattle.c_model.specs.SyntaxNodes.{declarator_nodes};
+    ghost use Rattle.c_tree.specs.SyntaxSizes.{declarator_nodes};
     ghost use Rattle.c_model.specs.SyntaxDepth.{declarator_depth, capped};
-    ghost use Rattle.c_model.specs.SyntaxCode.{coded_declarator};
+    ghost use Rattle.c_tree.specs.SyntaxCode.{coded_declarator};
 
     ghost Value = { m.Declarator };
 

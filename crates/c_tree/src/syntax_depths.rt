@@ -19,29 +19,29 @@ pub(crate) fn expr_form_depth(form: &ExprForm) -> u32
 {
     match form {
         ExprForm::Identifier(_) => 1,
-        ExprForm::Constant(_, _) => 1,
-        ExprForm::Text(_, _) => 1,
-        ExprForm::Truth(_, _) => 1,
+        ExprForm::Constant { .. } => 1,
+        ExprForm::Text { .. } => 1,
+        ExprForm::Truth { .. } => 1,
         ExprForm::Nullptr(_) => 1,
-        ExprForm::Parenthesized(inner, _) => above(inner.depth()),
-        ExprForm::CompoundLiteral(name, values, _) => above(deeper(name.depth(), braces_depth(values))),
-        ExprForm::FunctionLiteral(name, body, _) => above(deeper(name.depth(), block_depth(body))),
-        ExprForm::Index(array, index, _) => above(deeper(array.depth(), index.depth())),
-        ExprForm::Call(function, arguments, _) => above(deeper(function.depth(), exprs_depth(arguments))),
-        ExprForm::Member(structure, _, _) => above(structure.depth()),
-        ExprForm::Arrow(pointer, _, _) => above(pointer.depth()),
-        ExprForm::Step(_, _, operand, _) => above(operand.depth()),
-        ExprForm::Unary(_, operand, _) => above(operand.depth()),
-        ExprForm::SizeofExpr(operand, _) => above(operand.depth()),
-        ExprForm::SizeofType(name, _) => above(name.depth()),
-        ExprForm::Alignof(name, _) => above(name.depth()),
-        ExprForm::Cast(name, operand, _) => above(deeper(name.depth(), operand.depth())),
-        ExprForm::Binary(_, left, right, _) => above(deeper(left.depth(), right.depth())),
-        ExprForm::Logic(_, left, right, _) => above(deeper(left.depth(), right.depth())),
-        ExprForm::Conditional(condition, first, second, _) => above(deeper(condition.depth(), deeper(first.depth(), second.depth()))),
-        ExprForm::Assign(left, right, _) => above(deeper(left.depth(), right.depth())),
-        ExprForm::AssignBy(_, left, right, _) => above(deeper(left.depth(), right.depth())),
-        ExprForm::Comma(first, second, _) => above(deeper(first.depth(), second.depth())),
+        ExprForm::Parenthesized { inner, .. } => above(inner.depth()),
+        ExprForm::CompoundLiteral { name, values, .. } => above(deeper(name.depth(), braces_depth(values))),
+        ExprForm::FunctionLiteral { name, body, .. } => above(deeper(name.depth(), block_depth(body))),
+        ExprForm::Index { array, index, .. } => above(deeper(array.depth(), index.depth())),
+        ExprForm::Call { function, arguments, .. } => above(deeper(function.depth(), exprs_depth(arguments))),
+        ExprForm::Member { structure, .. } => above(structure.depth()),
+        ExprForm::Arrow { pointer, .. } => above(pointer.depth()),
+        ExprForm::Step { operand, .. } => above(operand.depth()),
+        ExprForm::Unary { operand, .. } => above(operand.depth()),
+        ExprForm::SizeofExpr { operand, .. } => above(operand.depth()),
+        ExprForm::SizeofType { name, .. } => above(name.depth()),
+        ExprForm::Alignof { name, .. } => above(name.depth()),
+        ExprForm::Cast { name, operand, .. } => above(deeper(name.depth(), operand.depth())),
+        ExprForm::Binary { left, right, .. } => above(deeper(left.depth(), right.depth())),
+        ExprForm::Logic { left, right, .. } => above(deeper(left.depth(), right.depth())),
+        ExprForm::Conditional { condition, first, second, .. } => above(deeper(condition.depth(), deeper(first.depth(), second.depth()))),
+        ExprForm::Assign { left, right, .. } => above(deeper(left.depth(), right.depth())),
+        ExprForm::AssignBy { left, right, .. } => above(deeper(left.depth(), right.depth())),
+        ExprForm::Comma { first, second, .. } => above(deeper(first.depth(), second.depth())),
     }
 }
 
@@ -74,17 +74,17 @@ fn spec_depth(spec: &Spec) -> u32
     ensures { result ≡ capped (d.spec_depth (spec_of spec.now)) }
 {
     match spec {
-        Spec::Storage(_, _) => 1,
-        Spec::Function(_, _) => 1,
-        Spec::Keyword(_, _) => 1,
+        Spec::Storage { .. } => 1,
+        Spec::Function { .. } => 1,
+        Spec::Keyword { .. } => 1,
         Spec::Qualifier(_) => 1,
-        Spec::StructTag(_, _) => 1,
-        Spec::Struct(_, members, _) => above(member_declarations_depth(members)),
-        Spec::EnumTag(_, fixed, _) => above(maybe_specs_depth(fixed)),
-        Spec::Enum(_, fixed, enumerators, _) => above(deeper(maybe_specs_depth(fixed), enumerators_depth(enumerators))),
+        Spec::StructTag { .. } => 1,
+        Spec::Struct { members, .. } => above(member_declarations_depth(members)),
+        Spec::EnumTag { fixed, .. } => above(maybe_specs_depth(fixed)),
+        Spec::Enum { fixed, enumerators, .. } => above(deeper(maybe_specs_depth(fixed), enumerators_depth(enumerators))),
         Spec::TypedefName(_) => 1,
-        Spec::TypeofExpr(_, operand, _) => above(operand.depth()),
-        Spec::TypeofType(_, name, _) => above(name.depth()),
+        Spec::TypeofExpr { operand, .. } => above(operand.depth()),
+        Spec::TypeofType { name, .. } => above(name.depth()),
     }
 }
 
@@ -117,7 +117,7 @@ fn member_declaration_depth(member_declaration: &MemberDeclaration) -> u32
     ensures { result ≡ capped (d.member_declaration_depth (member_declaration_of member_declaration.now)) }
 {
     match member_declaration {
-        MemberDeclaration::Declarators(specs, declarators) => above(deeper(specs.depth(), declarators_depth(declarators))),
+        MemberDeclaration::Declarators { specs, declarators } => above(deeper(specs.depth(), declarators_depth(declarators))),
         MemberDeclaration::Assertion(assertion) => above(assertion_depth(assertion)),
     }
 }
@@ -152,9 +152,9 @@ pub(crate) fn declarator_form_depth(form: &DeclaratorForm) -> u32
     ensures { result ≡ capped (d.declarator_depth (declarator_of form.now)) }
 {
     match form {
-        DeclaratorForm::Named(_, _, suffixes) => above(suffixes_depth(suffixes)),
-        DeclaratorForm::Unnamed(_, suffixes) => above(suffixes_depth(suffixes)),
-        DeclaratorForm::Grouped(_, inner, suffixes, _) => above(deeper(inner.depth(), suffixes_depth(suffixes))),
+        DeclaratorForm::Named { suffixes, .. } => above(suffixes_depth(suffixes)),
+        DeclaratorForm::Unnamed { suffixes, .. } => above(suffixes_depth(suffixes)),
+        DeclaratorForm::Grouped { inner, suffixes, .. } => above(deeper(inner.depth(), suffixes_depth(suffixes))),
     }
 }
 
@@ -172,8 +172,8 @@ fn suffix_depth(suffix: &Suffix) -> u32
     ensures { result ≡ capped (d.suffix_depth (suffix_of suffix.now)) }
 {
     match suffix {
-        Suffix::Array(length, _) => above(maybe_expr_depth(length)),
-        Suffix::Function(parameters, _, _) => above(parameters_depth(parameters)),
+        Suffix::Array { length, .. } => above(maybe_expr_depth(length)),
+        Suffix::Function { parameters, .. } => above(parameters_depth(parameters)),
     }
 }
 
@@ -247,8 +247,8 @@ fn designator_depth(designator: &Designator) -> u32
     ensures { result ≡ capped (d.designator_depth (designator_of designator.now)) }
 {
     match designator {
-        Designator::Element(index, _) => above(index.depth()),
-        Designator::Member(_, _) => 1,
+        Designator::Element { index, .. } => above(index.depth()),
+        Designator::Member { .. } => 1,
     }
 }
 
@@ -266,7 +266,7 @@ pub(crate) fn declaration_form_depth(form: &DeclarationForm) -> u32
     ensures { result ≡ capped (d.declaration_depth (declaration_of form.now)) }
 {
     match form {
-        DeclarationForm::Simple(specs, declarators) => above(deeper(specs.depth(), init_declarators_depth(declarators))),
+        DeclarationForm::Simple { specs, declarators } => above(deeper(specs.depth(), init_declarators_depth(declarators))),
         DeclarationForm::Assertion(assertion) => above(assertion_depth(assertion)),
         DeclarationForm::Attributes => 1,
     }
@@ -307,18 +307,18 @@ pub(crate) fn statement_form_depth(form: &StatementForm) -> u32
     ensures { result ≡ capped (d.statement_depth (statement_of form.now)) }
 {
     match form {
-        StatementForm::Expression(value, _) => above(maybe_expr_depth(value)),
-        StatementForm::Compound(body, _) => above(block_depth(body)),
-        StatementForm::If(declaration, condition, first, second, _) => above(deeper(maybe_declaration_depth(declaration), deeper(condition.depth(), deeper(first.depth(), maybe_statement_depth(second))))),
-        StatementForm::Switch(value, body, _) => above(deeper(value.depth(), body.depth())),
-        StatementForm::While(condition, body, _) => above(deeper(condition.depth(), body.depth())),
-        StatementForm::DoWhile(body, condition, _) => above(deeper(body.depth(), condition.depth())),
-        StatementForm::For(first, condition, step, body, _) => above(deeper(maybe_expr_depth(first), deeper(maybe_expr_depth(condition), deeper(maybe_expr_depth(step), body.depth())))),
-        StatementForm::ForDeclaration(declaration, condition, step, body, _) => above(deeper(declaration.depth(), deeper(maybe_expr_depth(condition), deeper(maybe_expr_depth(step), body.depth())))),
-        StatementForm::Break(_, _) => 1,
-        StatementForm::Continue(_, _) => 1,
-        StatementForm::Return(value, _, _) => above(maybe_expr_depth(value)),
-        StatementForm::Defer(body, _, _) => above(body.depth()),
+        StatementForm::Expression { value, .. } => above(maybe_expr_depth(value)),
+        StatementForm::Compound { body, .. } => above(block_depth(body)),
+        StatementForm::If { declaration, condition, first, second, .. } => above(deeper(maybe_declaration_depth(declaration), deeper(condition.depth(), deeper(first.depth(), maybe_statement_depth(second))))),
+        StatementForm::Switch { value, body, .. } => above(deeper(value.depth(), body.depth())),
+        StatementForm::While { condition, body, .. } => above(deeper(condition.depth(), body.depth())),
+        StatementForm::DoWhile { body, condition, .. } => above(deeper(body.depth(), condition.depth())),
+        StatementForm::For { first, condition, step, body, .. } => above(deeper(maybe_expr_depth(first), deeper(maybe_expr_depth(condition), deeper(maybe_expr_depth(step), body.depth())))),
+        StatementForm::ForDeclaration { declaration, condition, step, body, .. } => above(deeper(declaration.depth(), deeper(maybe_expr_depth(condition), deeper(maybe_expr_depth(step), body.depth())))),
+        StatementForm::Break { .. } => 1,
+        StatementForm::Continue { .. } => 1,
+        StatementForm::Return { value, .. } => above(maybe_expr_depth(value)),
+        StatementForm::Defer { body, .. } => above(body.depth()),
     }
 }
 
@@ -336,7 +336,7 @@ fn block_item_depth(block_item: &BlockItem) -> u32
 {
     match block_item {
         BlockItem::Declaration(declaration) => above(declaration.depth()),
-        BlockItem::Case(value, _) => above(value.depth()),
+        BlockItem::Case { value, .. } => above(value.depth()),
         BlockItem::Default(_) => 1,
         BlockItem::Statement(statement) => above(statement.depth()),
     }
@@ -362,7 +362,7 @@ fn external_depth(external: &External) -> u32
     ensures { result ≡ capped (d.external_depth (external_of external.now)) }
 {
     match external {
-        External::Function(specs, declarator, body) => above(deeper(specs.depth(), deeper(declarator.depth(), block_depth(body)))),
+        External::Function { specs, declarator, body } => above(deeper(specs.depth(), deeper(declarator.depth(), block_depth(body)))),
         External::Declaration(declaration) => above(declaration.depth()),
     }
 }

@@ -2,7 +2,7 @@
 ghost use Rattle.std.specs.Prelude.{◌≡◌, IfOk};
 ghost use Rattle.c_model.specs.SyntaxDepth.{capped, expr_depth};
 ghost use Rattle.c_tree.specs.SyntaxViews.{expr_of};
-ghost use Rattle.c_tree.specs.SyntaxWords.{expr_tree};
+ghost use Rattle.c_tree.specs.SyntaxTrees.{expr_tree};
 
 use c_model::numbers::{BinOp, Const};
 use c_model::operators::{LogicOp, StepOp, StepSide};
@@ -25,46 +25,132 @@ pub enum ExprForm {
     /// A name, which is no typedef name.
     Identifier(Name),
     /// An integer constant or a character constant.
-    Constant(Const, Place),
+    Constant {
+        constant: Const,
+        place: Place,
+    },
     /// A string literal, without the zero behind its bytes.
-    Text(Bytes, Place),
+    Text {
+        bytes: Bytes,
+        place: Place,
+    },
     /// `true` or `false`.
-    Truth(bool, Place),
+    Truth {
+        value: bool,
+        place: Place,
+    },
     Nullptr(Place),
     /// An expression in parentheses.
-    Parenthesized(Expr, Place),
+    Parenthesized {
+        inner: Expr,
+        place: Place,
+    },
     /// A compound literal (6.5.3.6).
-    CompoundLiteral(TypeName, Braces, Place),
+    CompoundLiteral {
+        name: TypeName,
+        values: Braces,
+        place: Place,
+    },
     /// A function literal: a type name that is written as a function, and a body.
-    FunctionLiteral(TypeName, Block, Place),
+    FunctionLiteral {
+        name: TypeName,
+        body: Block,
+        place: Place,
+    },
     /// An array and an index in brackets, in this order.
-    Index(Expr, Expr, Place),
+    Index {
+        array: Expr,
+        index: Expr,
+        place: Place,
+    },
     /// A function and its arguments.
-    Call(Expr, Items<Expr>, Place),
+    Call {
+        function: Expr,
+        arguments: Items<Expr>,
+        place: Place,
+    },
     /// A structure, and the name behind `.`.
-    Member(Expr, Name, Place),
+    Member {
+        structure: Expr,
+        member: Name,
+        place: Place,
+    },
     /// A pointer, and the name behind `->`.
-    Arrow(Expr, Name, Place),
+    Arrow {
+        pointer: Expr,
+        member: Name,
+        place: Place,
+    },
     /// `++` or `--`, before or behind its operand.
-    Step(StepOp, StepSide, Expr, Place),
-    Unary(PrefixOp, Expr, Place),
+    Step {
+        op: StepOp,
+        side: StepSide,
+        operand: Expr,
+        place: Place,
+    },
+    Unary {
+        op: PrefixOp,
+        operand: Expr,
+        place: Place,
+    },
     /// `sizeof` of an expression.
-    SizeofExpr(Expr, Place),
+    SizeofExpr {
+        operand: Expr,
+        place: Place,
+    },
     /// `sizeof` of a type name in parentheses.
-    SizeofType(TypeName, Place),
+    SizeofType {
+        name: TypeName,
+        place: Place,
+    },
     /// `alignof` of a type name.
-    Alignof(TypeName, Place),
-    Cast(TypeName, Expr, Place),
-    Binary(BinOp, Expr, Expr, Place),
+    Alignof {
+        name: TypeName,
+        place: Place,
+    },
+    Cast {
+        name: TypeName,
+        operand: Expr,
+        place: Place,
+    },
+    Binary {
+        op: BinOp,
+        left: Expr,
+        right: Expr,
+        place: Place,
+    },
     /// `&&` or `||`.
-    Logic(LogicOp, Expr, Expr, Place),
+    Logic {
+        op: LogicOp,
+        left: Expr,
+        right: Expr,
+        place: Place,
+    },
     /// A condition, and what stands before and behind the `:`.
-    Conditional(Expr, Expr, Expr, Place),
+    Conditional {
+        condition: Expr,
+        first: Expr,
+        second: Expr,
+        place: Place,
+    },
     /// `=`.
-    Assign(Expr, Expr, Place),
+    Assign {
+        left: Expr,
+        right: Expr,
+        place: Place,
+    },
     /// An assignment by an operator, such as `+=`.
-    AssignBy(BinOp, Expr, Expr, Place),
-    Comma(Expr, Expr, Place),
+    AssignBy {
+        op: BinOp,
+        left: Expr,
+        right: Expr,
+        place: Place,
+    },
+    Comma {
+        first: Expr,
+        second: Expr,
+        place: Place,
+    },
 }
 
 /// An expression.
@@ -78,9 +164,9 @@ pub struct Expr {
 impl Model for Expr {
     ghost use Rattle.std.specs.Prelude.{◌≡◌};
     ghost use Rattle.c_model.specs.SyntaxForms as m;
-    ghost use Rattle.c_model.specs.SyntaxNodes.{expr_nodes};
+    ghost use Rattle.c_tree.specs.SyntaxSizes.{expr_nodes};
     ghost use Rattle.c_model.specs.SyntaxDepth.{expr_depth, capped};
-    ghost use Rattle.c_model.specs.SyntaxCode.{coded_expr};
+    ghost use Rattle.c_tree.specs.SyntaxCode.{coded_expr};
 
     ghost Value = { m.Expr };
 

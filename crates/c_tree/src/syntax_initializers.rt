@@ -2,7 +2,7 @@
 ghost use Rattle.std.specs.Prelude.{◌≡◌, IfOk};
 ghost use Rattle.c_model.specs.SyntaxDepth.{capped, initializer_depth};
 ghost use Rattle.c_tree.specs.SyntaxViews.{initializer_of};
-ghost use Rattle.c_tree.specs.SyntaxWords.{initializer_tree};
+ghost use Rattle.c_tree.specs.SyntaxTrees.{initializer_tree};
 
 use c_model::syntax::Name;
 use cake_base::{NoMemory, Place};
@@ -49,16 +49,22 @@ pub struct InitializerItem {
 #[cycle(syntax)]
 #[derive(Drop)]
 pub enum Designator {
-    Element(Expr, Place),
-    Member(Name, Place),
+    Element {
+        index: Expr,
+        place: Place,
+    },
+    Member {
+        member: Name,
+        place: Place,
+    },
 }
 
 impl Model for Initializer {
     ghost use Rattle.std.specs.Prelude.{◌≡◌};
     ghost use Rattle.c_model.specs.SyntaxForms as m;
-    ghost use Rattle.c_model.specs.SyntaxNodes.{initializer_nodes};
+    ghost use Rattle.c_tree.specs.SyntaxSizes.{initializer_nodes};
     ghost use Rattle.c_model.specs.SyntaxDepth.{initializer_depth, capped};
-    ghost use Rattle.c_model.specs.SyntaxCode.{coded_initializer};
+    ghost use Rattle.c_tree.specs.SyntaxCode.{coded_initializer};
 
     ghost Value = { m.Initializer };
 

@@ -2,7 +2,7 @@
 ghost use Rattle.std.specs.Prelude.{◌≡◌, IfOk};
 ghost use Rattle.c_model.specs.SyntaxDepth.{capped, specs_depth, type_name_depth};
 ghost use Rattle.c_tree.specs.SyntaxViews.{type_name_of, specs_of};
-ghost use Rattle.c_tree.specs.SyntaxWords.{type_name_tree, specs_tree};
+ghost use Rattle.c_tree.specs.SyntaxTrees.{type_name_tree, specs_tree};
 
 use c_model::syntax::{FunctionWord, Name, Qualifier, StorageWord, TypeWord, TypeofWord};
 use cake_base::{NoMemory, Place};
@@ -35,24 +35,57 @@ pub struct TypeName {
 #[cycle(syntax)]
 #[derive(Drop)]
 pub enum Spec {
-    Storage(StorageWord, Place),
-    Function(FunctionWord, Place),
+    Storage {
+        word: StorageWord,
+        place: Place,
+    },
+    Function {
+        word: FunctionWord,
+        place: Place,
+    },
     /// A type specifier that is one keyword.
-    Keyword(TypeWord, Place),
+    Keyword {
+        word: TypeWord,
+        place: Place,
+    },
     Qualifier(Qualifier),
     /// A structure by its tag.
-    StructTag(Name, Place),
+    StructTag {
+        tag: Name,
+        place: Place,
+    },
     /// A structure with members in braces, and its tag where it has one.
-    Struct(Option<Name>, Items<MemberDeclaration>, Place),
+    Struct {
+        tag: Option<Name>,
+        members: Items<MemberDeclaration>,
+        place: Place,
+    },
     /// An enumeration by its tag, with the specifiers of its type where they are written.
-    EnumTag(Name, Option<Specs>, Place),
+    EnumTag {
+        tag: Name,
+        fixed: Option<Specs>,
+        place: Place,
+    },
     /// An enumeration with enumerators in braces, with its tag and the specifiers of its type where they are written.
-    Enum(Option<Name>, Option<Specs>, Items<Enumerator>, Place),
+    Enum {
+        tag: Option<Name>,
+        fixed: Option<Specs>,
+        enumerators: Items<Enumerator>,
+        place: Place,
+    },
     TypedefName(Name),
     /// `typeof` or `typeof_unqual` of an expression.
-    TypeofExpr(TypeofWord, Expr, Place),
+    TypeofExpr {
+        word: TypeofWord,
+        operand: Expr,
+        place: Place,
+    },
     /// `typeof` or `typeof_unqual` of a type name.
-    TypeofType(TypeofWord, TypeName, Place),
+    TypeofType {
+        word: TypeofWord,
+        name: TypeName,
+        place: Place,
+    },
 }
 
 /// Specifiers in order (6.7.1).
@@ -74,7 +107,10 @@ pub struct Specs {
 #[cycle(syntax)]
 #[derive(Drop)]
 pub enum MemberDeclaration {
-    Declarators(Specs, Items<Declarator>),
+    Declarators {
+        specs: Specs,
+        declarators: Items<Declarator>,
+    },
     Assertion(Assertion),
 }
 
@@ -89,9 +125,9 @@ pub struct Enumerator {
 impl Model for TypeName {
     ghost use Rattle.std.specs.Prelude.{◌≡◌};
     ghost use Rattle.c_model.specs.SyntaxForms as m;
-    ghost use Rattle.c_model.specs.SyntaxNodes.{type_name_nodes};
+    ghost use Rattle.c_tree.specs.SyntaxSizes.{type_name_nodes};
     ghost use Rattle.c_model.specs.SyntaxDepth.{type_name_depth, capped};
-    ghost use Rattle.c_model.specs.SyntaxCode.{coded_type_name};
+    ghost use Rattle.c_tree.specs.SyntaxCode.{coded_type_name};
 
     ghost Value = { m.TypeName };
 
@@ -113,9 +149,9 @@ impl Model for TypeName {
 impl Model for Specs {
     ghost use Rattle.std.specs.Prelude.{◌≡◌};
     ghost use Rattle.c_model.specs.SyntaxForms as m;
-    ghost use Rattle.c_model.specs.SyntaxNodes.{specs_nodes};
+    ghost use Rattle.c_tree.specs.SyntaxSizes.{specs_nodes};
     ghost use Rattle.c_model.specs.SyntaxDepth.{specs_depth, capped};
-    ghost use Rattle.c_model.specs.SyntaxCode.{coded_specs};
+    ghost use Rattle.c_tree.specs.SyntaxCode.{coded_specs};
 
     ghost Value = { m.Specs };
 

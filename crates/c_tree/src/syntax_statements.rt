@@ -2,7 +2,7 @@
 ghost use Rattle.std.specs.Prelude.{◌≡◌, IfOk};
 ghost use Rattle.c_model.specs.SyntaxDepth.{capped, statement_depth};
 ghost use Rattle.c_tree.specs.SyntaxViews.{statement_of};
-ghost use Rattle.c_tree.specs.SyntaxWords.{statement_tree};
+ghost use Rattle.c_tree.specs.SyntaxTrees.{statement_tree};
 
 use c_model::marks::Span;
 use cake_base::{NoMemory, Place};
@@ -19,22 +19,72 @@ use std::rc::Rc;
 #[derive(Drop)]
 pub enum StatementForm {
     /// An expression, or nothing, before a `;`.
-    Expression(Option<Expr>, Span),
-    Compound(Block, Span),
+    Expression {
+        value: Option<Expr>,
+        span: Span,
+    },
+    Compound {
+        body: Block,
+        span: Span,
+    },
     /// `if` with the declaration in its parentheses, the condition, and the statements of `if` and `else`.
-    If(Option<Declaration>, Expr, Statement, Option<Statement>, Span),
-    Switch(Expr, Statement, Span),
-    While(Expr, Statement, Span),
-    DoWhile(Statement, Expr, Span),
+    If {
+        declaration: Option<Declaration>,
+        condition: Expr,
+        first: Statement,
+        second: Option<Statement>,
+        span: Span,
+    },
+    Switch {
+        value: Expr,
+        body: Statement,
+        span: Span,
+    },
+    While {
+        condition: Expr,
+        body: Statement,
+        span: Span,
+    },
+    DoWhile {
+        body: Statement,
+        condition: Expr,
+        span: Span,
+    },
     /// `for` with the expressions in its parentheses, and its body.
-    For(Option<Expr>, Option<Expr>, Option<Expr>, Statement, Span),
+    For {
+        first: Option<Expr>,
+        condition: Option<Expr>,
+        step: Option<Expr>,
+        body: Statement,
+        span: Span,
+    },
     /// `for` whose parentheses begin with a declaration.
-    ForDeclaration(Declaration, Option<Expr>, Option<Expr>, Statement, Span),
-    Break(Place, Span),
-    Continue(Place, Span),
-    Return(Option<Expr>, Place, Span),
+    ForDeclaration {
+        declaration: Declaration,
+        condition: Option<Expr>,
+        step: Option<Expr>,
+        body: Statement,
+        span: Span,
+    },
+    Break {
+        place: Place,
+        span: Span,
+    },
+    Continue {
+        place: Place,
+        span: Span,
+    },
+    Return {
+        value: Option<Expr>,
+        place: Place,
+        span: Span,
+    },
     /// `defer` before a statement.
-    Defer(Statement, Place, Span),
+    Defer {
+        body: Statement,
+        place: Place,
+        span: Span,
+    },
 }
 
 /// A statement.
@@ -51,7 +101,10 @@ pub struct Statement {
 pub enum BlockItem {
     Declaration(Declaration),
     /// `case` with its value.
-    Case(Expr, Place),
+    Case {
+        value: Expr,
+        place: Place,
+    },
     Default(Place),
     Statement(Statement),
 }
@@ -67,9 +120,9 @@ pub struct Block {
 impl Model for Statement {
     ghost use Rattle.std.specs.Prelude.{◌≡◌};
     ghost use Rattle.c_model.specs.SyntaxForms as m;
-    ghost use Rattle.c_model.specs.SyntaxNodes.{statement_nodes};
+    ghost use Rattle.c_tree.specs.SyntaxSizes.{statement_nodes};
     ghost use Rattle.c_model.specs.SyntaxDepth.{statement_depth, capped};
-    ghost use Rattle.c_model.specs.SyntaxCode.{coded_statement};
+    ghost use Rattle.c_tree.specs.SyntaxCode.{coded_statement};
 
     ghost Value = { m.Statement };
 

@@ -2,7 +2,7 @@
 ghost use Rattle.std.specs.Prelude.{◌≡◌, IfOk};
 ghost use Rattle.c_model.specs.SyntaxDepth.{capped, unit_depth};
 ghost use Rattle.c_tree.specs.SyntaxViews.{tree_of_form};
-ghost use Rattle.c_tree.specs.SyntaxWords.{unit_of};
+ghost use Rattle.c_tree.specs.SyntaxTrees.{unit_of};
 
 use cake_base::NoMemory;
 use crate::syntax_declarations::Declaration;
@@ -19,7 +19,11 @@ use std::rc::Rc;
 #[derive(Drop)]
 pub enum External {
     /// The definition of a function.
-    Function(Specs, Declarator, Block),
+    Function {
+        specs: Specs,
+        declarator: Declarator,
+        body: Block,
+    },
     Declaration(Declaration),
 }
 
@@ -41,7 +45,7 @@ impl Model for Tree {
     ghost use Rattle.std.specs.Coded.{coded_list};
     ghost use Rattle.c_model.specs.SyntaxForms as m;
     ghost use Rattle.c_model.specs.SyntaxDepth.{unit_depth, capped};
-    ghost use Rattle.c_model.specs.SyntaxCode.{coded_external};
+    ghost use Rattle.c_tree.specs.SyntaxCode.{coded_external};
 
     ghost Value = { List m.External };
 

@@ -3,13 +3,14 @@ use Rattle.std.specs.Prelude.{◌≡◌, zero, suc, [], None, refl}
 use Rattle.std.specs.Coded.{Coded}
 use base.Stored.{Gv, gnil, gnum, gcons}
 use Rattle.c_model.specs.TypesCode.{one_to_one, put_bool, get_bool, bool_back, put_basic, get_basic, basic_back}
-use Rattle.c_model.specs.SyntaxLeafCode.{put_bin_op, get_bin_op, bin_op_back, put_function_word, get_function_word, function_word_back, put_integer, get_integer, integer_back, put_logic_op, get_logic_op, logic_op_back, put_maybe_name, get_maybe_name, maybe_name_back, put_maybe_text, get_maybe_text, maybe_text_back, put_name, get_name, name_back, put_place, get_place, put_pointers, get_pointers, pointers_back, put_prefix_op, get_prefix_op, prefix_op_back, put_qualifier, get_qualifier, qualifier_back, put_span, get_span, put_step_op, get_step_op, step_op_back, put_step_side, get_step_side, step_side_back, put_storage_word, get_storage_word, storage_word_back, put_text, get_text, text_back, put_type_word, get_type_word, type_word_back, put_typeof_word, get_typeof_word, typeof_word_back}
+use Rattle.c_tree.specs.LeafCode.{put_binary, get_binary, binary_back, put_int, get_int, int_back, put_logic, get_logic, logic_back, put_place, get_place, put_side, get_side, side_back, put_span, get_span, put_step, get_step, step_back, put_text, get_text, text_back}
+use Rattle.c_tree.specs.SyntaxLeafCode.{put_function_word, get_function_word, function_word_back, put_maybe_name, get_maybe_name, maybe_name_back, put_maybe_text, get_maybe_text, maybe_text_back, put_name, get_name, name_back, put_pointers, get_pointers, pointers_back, put_prefix_op, get_prefix_op, prefix_op_back, put_qualifier, get_qualifier, qualifier_back, put_storage_word, get_storage_word, storage_word_back, put_type_word, get_type_word, type_word_back, put_typeof_word, get_typeof_word, typeof_word_back}
 use Rattle.c_model.specs.SyntaxForms.{Expr, Identifier, Constant, Text, Truth, Nullptr, Parenthesized, CompoundLiteral, FunctionLiteral, Index, Call, Member, Arrow, Step, Unary, SizeofExpr, SizeofType, Alignof, Cast, Binary, Logic, Conditional, Assign, AssignBy, Comma, Exprs, no_exprs, more_exprs, MaybeExpr, no_expr, an_expr, TypeName, type_name, Spec, StorageSpec, FunctionSpec, TypeSpec, QualifierSpec, StructTag, Struct, EnumTag, Enum, TypedefName, TypeofExpr, TypeofType, Specs, no_specs, more_specs, MaybeSpecs, none_of_specs, some_specs, MemberDeclaration, MemberDeclarators, MemberAssertion, MemberDeclarations, no_members, more_members, Enumerator, enumerator, Enumerators, no_enumerators, more_enumerators, Declarator, Named, Unnamed, Grouped, Declarators, no_declarators, more_declarators, Suffix, ArraySuffix, FunctionSuffix, Suffixes, no_suffixes, more_suffixes, Parameter, parameter, Parameters, no_parameters, more_parameters, Initializer, Single, Braced, MaybeInitializer, no_initializer, an_initializer, Braces, braces, InitializerItem, item, InitializerItems, no_items, more_items, Designator, ElementDesignator, MemberDesignator, Designators, no_designators, more_designators, Declaration, SimpleDeclaration, AssertDeclaration, AttributeDeclaration, MaybeDeclaration, no_declaration, a_declaration, InitDeclarator, init_declarator, InitDeclarators, no_init_declarators, more_init_declarators, Assertion, asserted, Statement, ExpressionStatement, CompoundStatement, If, Switch, While, DoWhile, For, ForDeclaration, Break, Continue, Return, Defer, MaybeStatement, no_statement, a_statement, BlockItem, DeclarationItem, CaseLabel, DefaultLabel, StatementItem, BlockItems, no_block_items, more_block_items, Block, block, External, FunctionDefinition, ExternalDeclaration}
 
 abbrev mutual
   pub put_expr : Expr → Gv
   put_expr (Identifier name) = gcons (gnum 0) (put_name name)
-  put_expr (Constant value basic place) = gcons (gnum 1) (gcons (put_integer value) (gcons (put_basic basic) (put_place place)))
+  put_expr (Constant value basic place) = gcons (gnum 1) (gcons (put_int value) (gcons (put_basic basic) (put_place place)))
   put_expr (Text bytes place) = gcons (gnum 2) (gcons (put_text bytes) (put_place place))
   put_expr (Truth value place) = gcons (gnum 3) (gcons (put_bool value) (put_place place))
   put_expr (Nullptr place) = gcons (gnum 4) (put_place place)
@@ -20,17 +21,17 @@ abbrev mutual
   put_expr (Call function arguments place) = gcons (gnum 9) (gcons (put_expr function) (gcons (put_exprs arguments) (put_place place)))
   put_expr (Member structure member place) = gcons (gnum 10) (gcons (put_expr structure) (gcons (put_name member) (put_place place)))
   put_expr (Arrow pointer member place) = gcons (gnum 11) (gcons (put_expr pointer) (gcons (put_name member) (put_place place)))
-  put_expr (Step op side operand place) = gcons (gnum 12) (gcons (put_step_op op) (gcons (put_step_side side) (gcons (put_expr operand) (put_place place))))
+  put_expr (Step op side operand place) = gcons (gnum 12) (gcons (put_step op) (gcons (put_side side) (gcons (put_expr operand) (put_place place))))
   put_expr (Unary op operand place) = gcons (gnum 13) (gcons (put_prefix_op op) (gcons (put_expr operand) (put_place place)))
   put_expr (SizeofExpr operand place) = gcons (gnum 14) (gcons (put_expr operand) (put_place place))
   put_expr (SizeofType name place) = gcons (gnum 15) (gcons (put_type_name name) (put_place place))
   put_expr (Alignof name place) = gcons (gnum 16) (gcons (put_type_name name) (put_place place))
   put_expr (Cast name operand place) = gcons (gnum 17) (gcons (put_type_name name) (gcons (put_expr operand) (put_place place)))
-  put_expr (Binary op left right place) = gcons (gnum 18) (gcons (put_bin_op op) (gcons (put_expr left) (gcons (put_expr right) (put_place place))))
-  put_expr (Logic op left right place) = gcons (gnum 19) (gcons (put_logic_op op) (gcons (put_expr left) (gcons (put_expr right) (put_place place))))
+  put_expr (Binary op left right place) = gcons (gnum 18) (gcons (put_binary op) (gcons (put_expr left) (gcons (put_expr right) (put_place place))))
+  put_expr (Logic op left right place) = gcons (gnum 19) (gcons (put_logic op) (gcons (put_expr left) (gcons (put_expr right) (put_place place))))
   put_expr (Conditional condition first second place) = gcons (gnum 20) (gcons (put_expr condition) (gcons (put_expr first) (gcons (put_expr second) (put_place place))))
   put_expr (Assign left right place) = gcons (gnum 21) (gcons (put_expr left) (gcons (put_expr right) (put_place place)))
-  put_expr (AssignBy op left right place) = gcons (gnum 22) (gcons (put_bin_op op) (gcons (put_expr left) (gcons (put_expr right) (put_place place))))
+  put_expr (AssignBy op left right place) = gcons (gnum 22) (gcons (put_binary op) (gcons (put_expr left) (gcons (put_expr right) (put_place place))))
   put_expr (Comma first second place) = gcons (gnum 23) (gcons (put_expr first) (gcons (put_expr second) (put_place place)))
 
   pub put_exprs : Exprs → Gv
@@ -91,7 +92,7 @@ abbrev mutual
 
   pub put_suffix : Suffix → Gv
   put_suffix (ArraySuffix length place) = gcons (gnum 0) (gcons (put_maybe_expr length) (put_place place))
-  put_suffix (FunctionSuffix parameters variadic place) = gcons (gnum 1) (gcons (put_parameters parameters) (gcons (put_bool variadic) (put_place place)))
+  put_suffix (FunctionSuffix parameters is_variadic place) = gcons (gnum 1) (gcons (put_parameters parameters) (gcons (put_bool is_variadic) (put_place place)))
 
   pub put_suffixes : Suffixes → Gv
   put_suffixes no_suffixes = gnil
@@ -183,7 +184,7 @@ abbrev mutual
 abbrev mutual
   pub get_expr : Gv → Expr
   get_expr (gcons (gnum zero) a) = Identifier (get_name a)
-  get_expr (gcons (gnum (suc zero)) (gcons a (gcons b c))) = Constant (get_integer a) (get_basic b) (get_place c)
+  get_expr (gcons (gnum (suc zero)) (gcons a (gcons b c))) = Constant (get_int a) (get_basic b) (get_place c)
   get_expr (gcons (gnum (suc (suc zero))) (gcons a b)) = Text (get_text a) (get_place b)
   get_expr (gcons (gnum (suc (suc (suc zero)))) (gcons a b)) = Truth (get_bool a) (get_place b)
   get_expr (gcons (gnum (suc (suc (suc (suc zero))))) a) = Nullptr (get_place a)
@@ -194,17 +195,17 @@ abbrev mutual
   get_expr (gcons (gnum (suc (suc (suc (suc (suc (suc (suc (suc (suc zero)))))))))) (gcons a (gcons b c))) = Call (get_expr a) (get_exprs b) (get_place c)
   get_expr (gcons (gnum (suc (suc (suc (suc (suc (suc (suc (suc (suc (suc zero))))))))))) (gcons a (gcons b c))) = Member (get_expr a) (get_name b) (get_place c)
   get_expr (gcons (gnum (suc (suc (suc (suc (suc (suc (suc (suc (suc (suc (suc zero)))))))))))) (gcons a (gcons b c))) = Arrow (get_expr a) (get_name b) (get_place c)
-  get_expr (gcons (gnum (suc (suc (suc (suc (suc (suc (suc (suc (suc (suc (suc (suc zero))))))))))))) (gcons a (gcons b (gcons c d)))) = Step (get_step_op a) (get_step_side b) (get_expr c) (get_place d)
+  get_expr (gcons (gnum (suc (suc (suc (suc (suc (suc (suc (suc (suc (suc (suc (suc zero))))))))))))) (gcons a (gcons b (gcons c d)))) = Step (get_step a) (get_side b) (get_expr c) (get_place d)
   get_expr (gcons (gnum (suc (suc (suc (suc (suc (suc (suc (suc (suc (suc (suc (suc (suc zero)))))))))))))) (gcons a (gcons b c))) = Unary (get_prefix_op a) (get_expr b) (get_place c)
   get_expr (gcons (gnum (suc (suc (suc (suc (suc (suc (suc (suc (suc (suc (suc (suc (suc (suc zero))))))))))))))) (gcons a b)) = SizeofExpr (get_expr a) (get_place b)
   get_expr (gcons (gnum (suc (suc (suc (suc (suc (suc (suc (suc (suc (suc (suc (suc (suc (suc (suc zero)))))))))))))))) (gcons a b)) = SizeofType (get_type_name a) (get_place b)
   get_expr (gcons (gnum (suc (suc (suc (suc (suc (suc (suc (suc (suc (suc (suc (suc (suc (suc (suc (suc zero))))))))))))))))) (gcons a b)) = Alignof (get_type_name a) (get_place b)
   get_expr (gcons (gnum (suc (suc (suc (suc (suc (suc (suc (suc (suc (suc (suc (suc (suc (suc (suc (suc (suc zero)))))))))))))))))) (gcons a (gcons b c))) = Cast (get_type_name a) (get_expr b) (get_place c)
-  get_expr (gcons (gnum (suc (suc (suc (suc (suc (suc (suc (suc (suc (suc (suc (suc (suc (suc (suc (suc (suc (suc zero))))))))))))))))))) (gcons a (gcons b (gcons c d)))) = Binary (get_bin_op a) (get_expr b) (get_expr c) (get_place d)
-  get_expr (gcons (gnum (suc (suc (suc (suc (suc (suc (suc (suc (suc (suc (suc (suc (suc (suc (suc (suc (suc (suc (suc zero)))))))))))))))))))) (gcons a (gcons b (gcons c d)))) = Logic (get_logic_op a) (get_expr b) (get_expr c) (get_place d)
+  get_expr (gcons (gnum (suc (suc (suc (suc (suc (suc (suc (suc (suc (suc (suc (suc (suc (suc (suc (suc (suc (suc zero))))))))))))))))))) (gcons a (gcons b (gcons c d)))) = Binary (get_binary a) (get_expr b) (get_expr c) (get_place d)
+  get_expr (gcons (gnum (suc (suc (suc (suc (suc (suc (suc (suc (suc (suc (suc (suc (suc (suc (suc (suc (suc (suc (suc zero)))))))))))))))))))) (gcons a (gcons b (gcons c d)))) = Logic (get_logic a) (get_expr b) (get_expr c) (get_place d)
   get_expr (gcons (gnum (suc (suc (suc (suc (suc (suc (suc (suc (suc (suc (suc (suc (suc (suc (suc (suc (suc (suc (suc (suc zero))))))))))))))))))))) (gcons a (gcons b (gcons c d)))) = Conditional (get_expr a) (get_expr b) (get_expr c) (get_place d)
   get_expr (gcons (gnum (suc (suc (suc (suc (suc (suc (suc (suc (suc (suc (suc (suc (suc (suc (suc (suc (suc (suc (suc (suc (suc zero)))))))))))))))))))))) (gcons a (gcons b c))) = Assign (get_expr a) (get_expr b) (get_place c)
-  get_expr (gcons (gnum (suc (suc (suc (suc (suc (suc (suc (suc (suc (suc (suc (suc (suc (suc (suc (suc (suc (suc (suc (suc (suc (suc zero))))))))))))))))))))))) (gcons a (gcons b (gcons c d)))) = AssignBy (get_bin_op a) (get_expr b) (get_expr c) (get_place d)
+  get_expr (gcons (gnum (suc (suc (suc (suc (suc (suc (suc (suc (suc (suc (suc (suc (suc (suc (suc (suc (suc (suc (suc (suc (suc (suc zero))))))))))))))))))))))) (gcons a (gcons b (gcons c d)))) = AssignBy (get_binary a) (get_expr b) (get_expr c) (get_place d)
   get_expr (gcons (gnum (suc (suc (suc (suc (suc (suc (suc (suc (suc (suc (suc (suc (suc (suc (suc (suc (suc (suc (suc (suc (suc (suc (suc zero)))))))))))))))))))))))) (gcons a (gcons b c))) = Comma (get_expr a) (get_expr b) (get_place c)
   get_expr _ = Nullptr (get_place gnil)
 
@@ -375,7 +376,7 @@ abbrev mutual
 mutual
   pub expr_back : (x : Expr) → get_expr (put_expr x) ≡ x
   expr_back (Identifier name) = λ i. Identifier (name_back name i)
-  expr_back (Constant value basic place) = λ i. Constant (integer_back value i) (basic_back basic i) place
+  expr_back (Constant value basic place) = λ i. Constant (int_back value i) (basic_back basic i) place
   expr_back (Text bytes place) = λ i. Text (text_back bytes i) place
   expr_back (Truth value place) = λ i. Truth (bool_back value i) place
   expr_back (Nullptr place) = refl
@@ -386,17 +387,17 @@ mutual
   expr_back (Call function arguments place) = λ i. Call (expr_back function i) (exprs_back arguments i) place
   expr_back (Member structure member place) = λ i. Member (expr_back structure i) (name_back member i) place
   expr_back (Arrow pointer member place) = λ i. Arrow (expr_back pointer i) (name_back member i) place
-  expr_back (Step op side operand place) = λ i. Step (step_op_back op i) (step_side_back side i) (expr_back operand i) place
+  expr_back (Step op side operand place) = λ i. Step (step_back op i) (side_back side i) (expr_back operand i) place
   expr_back (Unary op operand place) = λ i. Unary (prefix_op_back op i) (expr_back operand i) place
   expr_back (SizeofExpr operand place) = λ i. SizeofExpr (expr_back operand i) place
   expr_back (SizeofType name place) = λ i. SizeofType (type_name_back name i) place
   expr_back (Alignof name place) = λ i. Alignof (type_name_back name i) place
   expr_back (Cast name operand place) = λ i. Cast (type_name_back name i) (expr_back operand i) place
-  expr_back (Binary op left right place) = λ i. Binary (bin_op_back op i) (expr_back left i) (expr_back right i) place
-  expr_back (Logic op left right place) = λ i. Logic (logic_op_back op i) (expr_back left i) (expr_back right i) place
+  expr_back (Binary op left right place) = λ i. Binary (binary_back op i) (expr_back left i) (expr_back right i) place
+  expr_back (Logic op left right place) = λ i. Logic (logic_back op i) (expr_back left i) (expr_back right i) place
   expr_back (Conditional condition first second place) = λ i. Conditional (expr_back condition i) (expr_back first i) (expr_back second i) place
   expr_back (Assign left right place) = λ i. Assign (expr_back left i) (expr_back right i) place
-  expr_back (AssignBy op left right place) = λ i. AssignBy (bin_op_back op i) (expr_back left i) (expr_back right i) place
+  expr_back (AssignBy op left right place) = λ i. AssignBy (binary_back op i) (expr_back left i) (expr_back right i) place
   expr_back (Comma first second place) = λ i. Comma (expr_back first i) (expr_back second i) place
 
   pub exprs_back : (x : Exprs) → get_exprs (put_exprs x) ≡ x
@@ -457,7 +458,7 @@ mutual
 
   pub suffix_back : (x : Suffix) → get_suffix (put_suffix x) ≡ x
   suffix_back (ArraySuffix length place) = λ i. ArraySuffix (maybe_expr_back length i) place
-  suffix_back (FunctionSuffix parameters variadic place) = λ i. FunctionSuffix (parameters_back parameters i) (bool_back variadic i) place
+  suffix_back (FunctionSuffix parameters is_variadic place) = λ i. FunctionSuffix (parameters_back parameters i) (bool_back is_variadic i) place
 
   pub suffixes_back : (x : Suffixes) → get_suffixes (put_suffixes x) ≡ x
   suffixes_back no_suffixes = refl

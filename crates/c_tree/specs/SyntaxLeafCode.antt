@@ -1,12 +1,11 @@
--- How the logic stores the leaves of the grammar's trees.
-use Rattle.std.specs.Prelude.{◌≡◌, ℕ, zero, suc, ℤ, pos, negsuc, List, [], ◌∷◌, Option, Some, None, refl}
+-- How the logic stores what only the grammar's trees are made of.
+use Rattle.std.specs.Prelude.{◌≡◌, ℕ, zero, suc, List, [], ◌∷◌, Option, Some, None, refl}
 use Rattle.std.proofs.Common.{ap}
 use base.Stored.{Gv, gnil, gnum, gcons}
-use Rattle.cake_base.specs.declared.places.Place.{Place}
-use Rattle.c_model.specs.declared.marks.Span.{Span}
 use Rattle.c_model.specs.declared.syntax.Name.{Name}
 use Rattle.c_model.specs.declared.syntax.Qualifier.{Qualifier}
 use Rattle.c_model.specs.declared.syntax.Pointer.{Pointer}
+use Rattle.c_tree.specs.LeafCode.{put_text, get_text, text_back, put_place, get_place}
 use Rattle.c_model.specs.declared.syntax.StorageWord.{StorageWord}
 use Rattle.c_model.specs.declared.syntax.StorageWord.TheVariants as storage_word
 use Rattle.c_model.specs.declared.syntax.FunctionWord.{FunctionWord}
@@ -19,14 +18,6 @@ use Rattle.c_model.specs.declared.syntax.TypeofWord.{TypeofWord}
 use Rattle.c_model.specs.declared.syntax.TypeofWord.TheVariants as typeof_word
 use Rattle.c_model.specs.declared.syntax.PrefixOp.{PrefixOp}
 use Rattle.c_model.specs.declared.syntax.PrefixOp.TheVariants as prefix_op
-use Rattle.c_model.specs.declared.numbers.BinOp.{BinOp}
-use Rattle.c_model.specs.declared.numbers.BinOp.TheVariants as bin_op
-use Rattle.c_model.specs.declared.operators.LogicOp.{LogicOp}
-use Rattle.c_model.specs.declared.operators.LogicOp.TheVariants as logic_op
-use Rattle.c_model.specs.declared.operators.StepOp.{StepOp}
-use Rattle.c_model.specs.declared.operators.StepOp.TheVariants as step_op
-use Rattle.c_model.specs.declared.operators.StepSide.{StepSide}
-use Rattle.c_model.specs.declared.operators.StepSide.TheVariants as step_side
 
 abbrev pub put_storage_word : StorageWord → Gv
 put_storage_word storage_word.Typedef = gnum 0
@@ -151,108 +142,6 @@ prefix_op_back prefix_op.Minus = refl
 prefix_op_back prefix_op.Complement = refl
 prefix_op_back prefix_op.Not = refl
 
-abbrev pub put_bin_op : BinOp → Gv
-put_bin_op bin_op.Mul = gnum 0
-put_bin_op bin_op.Div = gnum 1
-put_bin_op bin_op.Rem = gnum 2
-put_bin_op bin_op.Add = gnum 3
-put_bin_op bin_op.Sub = gnum 4
-put_bin_op bin_op.ShiftLeft = gnum 5
-put_bin_op bin_op.ShiftRight = gnum 6
-put_bin_op bin_op.Less = gnum 7
-put_bin_op bin_op.Greater = gnum 8
-put_bin_op bin_op.LessEqual = gnum 9
-put_bin_op bin_op.GreaterEqual = gnum 10
-put_bin_op bin_op.Equal = gnum 11
-put_bin_op bin_op.NotEqual = gnum 12
-put_bin_op bin_op.BitAnd = gnum 13
-put_bin_op bin_op.BitXor = gnum 14
-put_bin_op bin_op.BitOr = gnum 15
-
-abbrev pub get_bin_op : Gv → BinOp
-get_bin_op (gnum zero) = bin_op.Mul
-get_bin_op (gnum (suc zero)) = bin_op.Div
-get_bin_op (gnum (suc (suc zero))) = bin_op.Rem
-get_bin_op (gnum (suc (suc (suc zero)))) = bin_op.Add
-get_bin_op (gnum (suc (suc (suc (suc zero))))) = bin_op.Sub
-get_bin_op (gnum (suc (suc (suc (suc (suc zero)))))) = bin_op.ShiftLeft
-get_bin_op (gnum (suc (suc (suc (suc (suc (suc zero))))))) = bin_op.ShiftRight
-get_bin_op (gnum (suc (suc (suc (suc (suc (suc (suc zero)))))))) = bin_op.Less
-get_bin_op (gnum (suc (suc (suc (suc (suc (suc (suc (suc zero))))))))) = bin_op.Greater
-get_bin_op (gnum (suc (suc (suc (suc (suc (suc (suc (suc (suc zero)))))))))) = bin_op.LessEqual
-get_bin_op (gnum (suc (suc (suc (suc (suc (suc (suc (suc (suc (suc zero))))))))))) = bin_op.GreaterEqual
-get_bin_op (gnum (suc (suc (suc (suc (suc (suc (suc (suc (suc (suc (suc zero)))))))))))) = bin_op.Equal
-get_bin_op (gnum (suc (suc (suc (suc (suc (suc (suc (suc (suc (suc (suc (suc zero))))))))))))) = bin_op.NotEqual
-get_bin_op (gnum (suc (suc (suc (suc (suc (suc (suc (suc (suc (suc (suc (suc (suc zero)))))))))))))) = bin_op.BitAnd
-get_bin_op (gnum (suc (suc (suc (suc (suc (suc (suc (suc (suc (suc (suc (suc (suc (suc zero))))))))))))))) = bin_op.BitXor
-get_bin_op _ = bin_op.BitOr
-
-pub bin_op_back : (x : BinOp) → get_bin_op (put_bin_op x) ≡ x
-bin_op_back bin_op.Mul = refl
-bin_op_back bin_op.Div = refl
-bin_op_back bin_op.Rem = refl
-bin_op_back bin_op.Add = refl
-bin_op_back bin_op.Sub = refl
-bin_op_back bin_op.ShiftLeft = refl
-bin_op_back bin_op.ShiftRight = refl
-bin_op_back bin_op.Less = refl
-bin_op_back bin_op.Greater = refl
-bin_op_back bin_op.LessEqual = refl
-bin_op_back bin_op.GreaterEqual = refl
-bin_op_back bin_op.Equal = refl
-bin_op_back bin_op.NotEqual = refl
-bin_op_back bin_op.BitAnd = refl
-bin_op_back bin_op.BitXor = refl
-bin_op_back bin_op.BitOr = refl
-
-abbrev pub put_logic_op : LogicOp → Gv
-put_logic_op logic_op.And = gnum 0
-put_logic_op logic_op.Or = gnum 1
-
-abbrev pub get_logic_op : Gv → LogicOp
-get_logic_op (gnum zero) = logic_op.And
-get_logic_op _ = logic_op.Or
-
-pub logic_op_back : (x : LogicOp) → get_logic_op (put_logic_op x) ≡ x
-logic_op_back logic_op.And = refl
-logic_op_back logic_op.Or = refl
-
-abbrev pub put_step_op : StepOp → Gv
-put_step_op step_op.Increment = gnum 0
-put_step_op step_op.Decrement = gnum 1
-
-abbrev pub get_step_op : Gv → StepOp
-get_step_op (gnum zero) = step_op.Increment
-get_step_op _ = step_op.Decrement
-
-pub step_op_back : (x : StepOp) → get_step_op (put_step_op x) ≡ x
-step_op_back step_op.Increment = refl
-step_op_back step_op.Decrement = refl
-
-abbrev pub put_step_side : StepSide → Gv
-put_step_side step_side.Prefix = gnum 0
-put_step_side step_side.Postfix = gnum 1
-
-abbrev pub get_step_side : Gv → StepSide
-get_step_side (gnum zero) = step_side.Prefix
-get_step_side _ = step_side.Postfix
-
-pub step_side_back : (x : StepSide) → get_step_side (put_step_side x) ≡ x
-step_side_back step_side.Prefix = refl
-step_side_back step_side.Postfix = refl
-
-abbrev pub put_text : List ℕ → Gv
-put_text [] = gnil
-put_text (c ∷ cs) = gcons (gnum c) (put_text cs)
-
-abbrev pub get_text : Gv → List ℕ
-get_text (gcons (gnum c) rest) = c ∷ get_text rest
-get_text _ = []
-
-pub text_back : (text : List ℕ) → get_text (put_text text) ≡ text
-text_back [] = refl
-text_back (c ∷ cs) = ap (λ rest. c ∷ rest) (text_back cs)
-
 abbrev pub put_maybe_text : Option (List ℕ) → Gv
 put_maybe_text None = gnil
 put_maybe_text (Some text) = gcons gnil (put_text text)
@@ -264,39 +153,6 @@ get_maybe_text _ = None
 pub maybe_text_back : (text : Option (List ℕ)) → get_maybe_text (put_maybe_text text) ≡ text
 maybe_text_back None = refl
 maybe_text_back (Some text) = ap Some (text_back text)
-
-abbrev pub put_integer : ℤ → Gv
-put_integer (pos n) = gcons gnil (gnum n)
-put_integer (negsuc n) = gnum n
-
-abbrev pub get_integer : Gv → ℤ
-get_integer (gcons a (gnum n)) = pos n
-get_integer (gnum n) = negsuc n
-get_integer _ = pos 0
-
-pub integer_back : (z : ℤ) → get_integer (put_integer z) ≡ z
-integer_back (pos n) = refl
-integer_back (negsuc n) = refl
-
-abbrev pub put_place : Place → Gv
-put_place p = gcons (gnum p.file) (gcons (gnum p.line) (gcons (gnum p.column) (gnum p.order)))
-
-abbrev pub get_place : Gv → Place
-get_place (gcons (gnum a) (gcons (gnum b) (gcons (gnum c) (gnum d)))) = record { file = a; line = b; column = c; order = d }
-get_place _ = record { file = 0; line = 0; column = 0; order = 0 }
-
-pub place_back : (p : Place) → get_place (put_place p) ≡ p
-place_back p = refl
-
-abbrev pub put_span : Span → Gv
-put_span s = gcons (put_place s.first) (put_place s.last)
-
-abbrev pub get_span : Gv → Span
-get_span (gcons a b) = record { first = get_place a; last = get_place b }
-get_span _ = record { first = get_place gnil; last = get_place gnil }
-
-pub span_back : (s : Span) → get_span (put_span s) ≡ s
-span_back s = refl
 
 abbrev pub put_name : Name → Gv
 put_name n = gcons (put_text n.text) (put_place n.place)

@@ -1,4 +1,5 @@
--- The tree that a node stands for. Contracts name a node's tree by these words alone, so that what a node is can change.
+-- The tree of the grammar that a node is. A node is seen as that tree itself, and contracts of the crates above say these
+-- words, so that nodes which stand for trees otherwise change nothing but them.
 use Rattle.std.specs.Prelude.{List}
 use Rattle.c_model.specs.SyntaxForms as m
 

@@ -87,7 +87,7 @@ abbrev mutual
 
   pub suffix_nodes : Suffix → ℕ
   suffix_nodes (ArraySuffix length place) = 1 + maybe_expr_nodes length
-  suffix_nodes (FunctionSuffix parameters variadic place) = 1 + parameters_nodes parameters
+  suffix_nodes (FunctionSuffix parameters is_variadic place) = 1 + parameters_nodes parameters
 
   pub suffixes_nodes : Suffixes → ℕ
   suffixes_nodes no_suffixes = 0
