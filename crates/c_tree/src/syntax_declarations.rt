@@ -4,12 +4,12 @@ ghost use Rattle.c_model.specs.SyntaxDepth.{capped, declaration_depth};
 ghost use Rattle.c_tree.specs.SyntaxViews.{declaration_of};
 ghost use Rattle.c_tree.specs.SyntaxTrees.{declaration_tree};
 
-use cake_base::{Bytes, NoMemory, Place};
 use crate::syntax_declarators::Declarator;
 use crate::syntax_depths::declaration_form_depth;
 use crate::syntax_expressions::Expr;
 use crate::syntax_initializers::Initializer;
 use crate::syntax_specifiers::Specs;
+use cake_base::{Bytes, NoMemory, Place};
 use sqlite_items::Items;
 use std::alloc::Global;
 use std::marker::Model;

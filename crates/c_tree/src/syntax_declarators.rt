@@ -4,11 +4,11 @@ ghost use Rattle.c_model.specs.SyntaxDepth.{capped, declarator_depth};
 ghost use Rattle.c_tree.specs.SyntaxViews.{declarator_of};
 ghost use Rattle.c_tree.specs.SyntaxTrees.{declarator_tree};
 
-use c_model::syntax::{Name, Pointer};
-use cake_base::{NoMemory, Place};
 use crate::syntax_depths::declarator_form_depth;
 use crate::syntax_expressions::Expr;
 use crate::syntax_specifiers::Specs;
+use c_model::syntax::{Name, Pointer};
+use cake_base::{NoMemory, Place};
 use sqlite_items::Items;
 use std::alloc::Global;
 use std::marker::Model;

@@ -8,8 +8,12 @@ ghost use Rattle.c_tree.specs.SyntaxViews.{assertion_of, block_item_of, block_it
 use crate::syntax_declarations::{Assertion, Declaration, DeclarationForm, InitDeclarator};
 use crate::syntax_declarators::{Declarator, DeclaratorForm, Parameter, Suffix};
 use crate::syntax_expressions::{Expr, ExprForm};
-use crate::syntax_initializers::{Braces, Designator, Initializer, InitializerForm, InitializerItem};
-use crate::syntax_specifiers::{Enumerator, MemberDeclaration, Spec, Specs, SpecsForm, TypeNameForm};
+use crate::syntax_initializers::{
+    Braces, Designator, Initializer, InitializerForm, InitializerItem,
+};
+use crate::syntax_specifiers::{
+    Enumerator, MemberDeclaration, Spec, Specs, SpecsForm, TypeNameForm,
+};
 use crate::syntax_statements::{Block, BlockItem, Statement, StatementForm};
 use crate::syntax_unit::{External, TreeForm};
 use sqlite_items::Items;
@@ -24,10 +28,20 @@ pub(crate) fn expr_form_depth(form: &ExprForm) -> u32
         ExprForm::Truth { .. } => 1,
         ExprForm::Nullptr(_) => 1,
         ExprForm::Parenthesized { inner, .. } => above(inner.depth()),
-        ExprForm::CompoundLiteral { name, values, .. } => above(deeper(name.depth(), braces_depth(values))),
-        ExprForm::FunctionLiteral { name, body, .. } => above(deeper(name.depth(), block_depth(body))),
+        ExprForm::CompoundLiteral { name, values, .. } => above(deeper(
+            name.depth(),
+            braces_depth(values),
+        )),
+        ExprForm::FunctionLiteral { name, body, .. } => above(deeper(
+            name.depth(),
+            block_depth(body),
+        )),
         ExprForm::Index { array, index, .. } => above(deeper(array.depth(), index.depth())),
-        ExprForm::Call { function, arguments, .. } => above(deeper(function.depth(), exprs_depth(arguments))),
+        ExprForm::Call {
+            function,
+            arguments,
+            ..
+        } => above(deeper(function.depth(), exprs_depth(arguments))),
         ExprForm::Member { structure, .. } => above(structure.depth()),
         ExprForm::Arrow { pointer, .. } => above(pointer.depth()),
         ExprForm::Step { operand, .. } => above(operand.depth()),
@@ -38,7 +52,12 @@ pub(crate) fn expr_form_depth(form: &ExprForm) -> u32
         ExprForm::Cast { name, operand, .. } => above(deeper(name.depth(), operand.depth())),
         ExprForm::Binary { left, right, .. } => above(deeper(left.depth(), right.depth())),
         ExprForm::Logic { left, right, .. } => above(deeper(left.depth(), right.depth())),
-        ExprForm::Conditional { condition, first, second, .. } => above(deeper(condition.depth(), deeper(first.depth(), second.depth()))),
+        ExprForm::Conditional {
+            condition,
+            first,
+            second,
+            ..
+        } => above(deeper(condition.depth(), deeper(first.depth(), second.depth()))),
         ExprForm::Assign { left, right, .. } => above(deeper(left.depth(), right.depth())),
         ExprForm::AssignBy { left, right, .. } => above(deeper(left.depth(), right.depth())),
         ExprForm::Comma { first, second, .. } => above(deeper(first.depth(), second.depth())),
@@ -81,7 +100,11 @@ fn spec_depth(spec: &Spec) -> u32
         Spec::StructTag { .. } => 1,
         Spec::Struct { members, .. } => above(member_declarations_depth(members)),
         Spec::EnumTag { fixed, .. } => above(maybe_specs_depth(fixed)),
-        Spec::Enum { fixed, enumerators, .. } => above(deeper(maybe_specs_depth(fixed), enumerators_depth(enumerators))),
+        Spec::Enum {
+            fixed,
+            enumerators,
+            ..
+        } => above(deeper(maybe_specs_depth(fixed), enumerators_depth(enumerators))),
         Spec::TypedefName(_) => 1,
         Spec::TypeofExpr { operand, .. } => above(operand.depth()),
         Spec::TypeofType { name, .. } => above(name.depth()),
@@ -117,7 +140,10 @@ fn member_declaration_depth(member_declaration: &MemberDeclaration) -> u32
     ensures { result ≡ capped (d.member_declaration_depth (member_declaration_of member_declaration.now)) }
 {
     match member_declaration {
-        MemberDeclaration::Declarators { specs, declarators } => above(deeper(specs.depth(), declarators_depth(declarators))),
+        MemberDeclaration::Declarators { specs, declarators } => above(deeper(
+            specs.depth(),
+            declarators_depth(declarators),
+        )),
         MemberDeclaration::Assertion(assertion) => above(assertion_depth(assertion)),
     }
 }
@@ -154,7 +180,11 @@ pub(crate) fn declarator_form_depth(form: &DeclaratorForm) -> u32
     match form {
         DeclaratorForm::Named { suffixes, .. } => above(suffixes_depth(suffixes)),
         DeclaratorForm::Unnamed { suffixes, .. } => above(suffixes_depth(suffixes)),
-        DeclaratorForm::Grouped { inner, suffixes, .. } => above(deeper(inner.depth(), suffixes_depth(suffixes))),
+        DeclaratorForm::Grouped {
+            inner,
+            suffixes,
+            ..
+        } => above(deeper(inner.depth(), suffixes_depth(suffixes))),
     }
 }
 
@@ -230,7 +260,10 @@ fn braces_depth(braces: &Braces) -> u32
 fn initializer_item_depth(initializer_item: &InitializerItem) -> u32
     ensures { result ≡ capped (d.initializer_item_depth (initializer_item_of initializer_item.now)) }
 {
-    above(deeper(designators_depth(&initializer_item.designators), initializer_item.value.depth()))
+    above(deeper(
+        designators_depth(&initializer_item.designators),
+        initializer_item.value.depth(),
+    ))
 }
 
 fn initializer_items_depth(initializer_items: &Items<InitializerItem>) -> u32
@@ -266,7 +299,10 @@ pub(crate) fn declaration_form_depth(form: &DeclarationForm) -> u32
     ensures { result ≡ capped (d.declaration_depth (declaration_of form.now)) }
 {
     match form {
-        DeclarationForm::Simple { specs, declarators } => above(deeper(specs.depth(), init_declarators_depth(declarators))),
+        DeclarationForm::Simple { specs, declarators } => above(deeper(
+            specs.depth(),
+            init_declarators_depth(declarators),
+        )),
         DeclarationForm::Assertion(assertion) => above(assertion_depth(assertion)),
         DeclarationForm::Attributes => 1,
     }
@@ -284,7 +320,10 @@ fn maybe_declaration_depth(declaration: &Option<Declaration>) -> u32
 fn init_declarator_depth(init_declarator: &InitDeclarator) -> u32
     ensures { result ≡ capped (d.init_declarator_depth (init_declarator_of init_declarator.now)) }
 {
-    above(deeper(init_declarator.declarator.depth(), maybe_initializer_depth(&init_declarator.initializer)))
+    above(deeper(
+        init_declarator.declarator.depth(),
+        maybe_initializer_depth(&init_declarator.initializer),
+    ))
 }
 
 fn init_declarators_depth(init_declarators: &Items<InitDeclarator>) -> u32
@@ -309,12 +348,56 @@ pub(crate) fn statement_form_depth(form: &StatementForm) -> u32
     match form {
         StatementForm::Expression { value, .. } => above(maybe_expr_depth(value)),
         StatementForm::Compound { body, .. } => above(block_depth(body)),
-        StatementForm::If { declaration, condition, first, second, .. } => above(deeper(maybe_declaration_depth(declaration), deeper(condition.depth(), deeper(first.depth(), maybe_statement_depth(second))))),
+        StatementForm::If {
+            declaration,
+            condition,
+            first,
+            second,
+            ..
+        } => above(deeper(
+            maybe_declaration_depth(declaration),
+            deeper(
+                condition.depth(),
+                deeper(first.depth(), maybe_statement_depth(second)),
+            ),
+        )),
         StatementForm::Switch { value, body, .. } => above(deeper(value.depth(), body.depth())),
-        StatementForm::While { condition, body, .. } => above(deeper(condition.depth(), body.depth())),
-        StatementForm::DoWhile { body, condition, .. } => above(deeper(body.depth(), condition.depth())),
-        StatementForm::For { first, condition, step, body, .. } => above(deeper(maybe_expr_depth(first), deeper(maybe_expr_depth(condition), deeper(maybe_expr_depth(step), body.depth())))),
-        StatementForm::ForDeclaration { declaration, condition, step, body, .. } => above(deeper(declaration.depth(), deeper(maybe_expr_depth(condition), deeper(maybe_expr_depth(step), body.depth())))),
+        StatementForm::While {
+            condition,
+            body,
+            ..
+        } => above(deeper(condition.depth(), body.depth())),
+        StatementForm::DoWhile {
+            body,
+            condition,
+            ..
+        } => above(deeper(body.depth(), condition.depth())),
+        StatementForm::For {
+            first,
+            condition,
+            step,
+            body,
+            ..
+        } => above(deeper(
+            maybe_expr_depth(first),
+            deeper(
+                maybe_expr_depth(condition),
+                deeper(maybe_expr_depth(step), body.depth()),
+            ),
+        )),
+        StatementForm::ForDeclaration {
+            declaration,
+            condition,
+            step,
+            body,
+            ..
+        } => above(deeper(
+            declaration.depth(),
+            deeper(
+                maybe_expr_depth(condition),
+                deeper(maybe_expr_depth(step), body.depth()),
+            ),
+        )),
         StatementForm::Break { .. } => 1,
         StatementForm::Continue { .. } => 1,
         StatementForm::Return { value, .. } => above(maybe_expr_depth(value)),
@@ -362,7 +445,11 @@ fn external_depth(external: &External) -> u32
     ensures { result ≡ capped (d.external_depth (external_of external.now)) }
 {
     match external {
-        External::Function { specs, declarator, body } => above(deeper(specs.depth(), deeper(declarator.depth(), block_depth(body)))),
+        External::Function {
+            specs,
+            declarator,
+            body,
+        } => above(deeper(specs.depth(), deeper(declarator.depth(), block_depth(body)))),
         External::Declaration(declaration) => above(declaration.depth()),
     }
 }

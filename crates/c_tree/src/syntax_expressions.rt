@@ -4,14 +4,14 @@ ghost use Rattle.c_model.specs.SyntaxDepth.{capped, expr_depth};
 ghost use Rattle.c_tree.specs.SyntaxViews.{expr_of};
 ghost use Rattle.c_tree.specs.SyntaxTrees.{expr_tree};
 
-use c_model::numbers::{BinOp, Const};
-use c_model::operators::{LogicOp, StepOp, StepSide};
-use c_model::syntax::{Name, PrefixOp};
-use cake_base::{Bytes, NoMemory, Place};
 use crate::syntax_depths::expr_form_depth;
 use crate::syntax_initializers::Braces;
 use crate::syntax_specifiers::TypeName;
 use crate::syntax_statements::Block;
+use c_model::numbers::{BinOp, Const};
+use c_model::operators::{LogicOp, StepOp, StepSide};
+use c_model::syntax::{Name, PrefixOp};
+use cake_base::{Bytes, NoMemory, Place};
 use sqlite_items::Items;
 use std::alloc::Global;
 use std::marker::Model;

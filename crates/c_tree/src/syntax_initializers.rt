@@ -4,10 +4,10 @@ ghost use Rattle.c_model.specs.SyntaxDepth.{capped, initializer_depth};
 ghost use Rattle.c_tree.specs.SyntaxViews.{initializer_of};
 ghost use Rattle.c_tree.specs.SyntaxTrees.{initializer_tree};
 
-use c_model::syntax::Name;
-use cake_base::{NoMemory, Place};
 use crate::syntax_depths::initializer_form_depth;
 use crate::syntax_expressions::Expr;
+use c_model::syntax::Name;
+use cake_base::{NoMemory, Place};
 use sqlite_items::Items;
 use std::alloc::Global;
 use std::marker::Model;
@@ -49,14 +49,8 @@ pub struct InitializerItem {
 #[cycle(syntax)]
 #[derive(Drop)]
 pub enum Designator {
-    Element {
-        index: Expr,
-        place: Place,
-    },
-    Member {
-        member: Name,
-        place: Place,
-    },
+    Element { index: Expr, place: Place },
+    Member { member: Name, place: Place },
 }
 
 impl Model for Initializer {

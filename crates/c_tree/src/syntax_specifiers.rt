@@ -4,12 +4,12 @@ ghost use Rattle.c_model.specs.SyntaxDepth.{capped, specs_depth, type_name_depth
 ghost use Rattle.c_tree.specs.SyntaxViews.{type_name_of, specs_of};
 ghost use Rattle.c_tree.specs.SyntaxTrees.{type_name_tree, specs_tree};
 
-use c_model::syntax::{FunctionWord, Name, Qualifier, StorageWord, TypeWord, TypeofWord};
-use cake_base::{NoMemory, Place};
 use crate::syntax_declarations::Assertion;
 use crate::syntax_declarators::Declarator;
 use crate::syntax_depths::{specs_form_depth, type_name_form_depth};
 use crate::syntax_expressions::Expr;
+use c_model::syntax::{FunctionWord, Name, Qualifier, StorageWord, TypeWord, TypeofWord};
+use cake_base::{NoMemory, Place};
 use sqlite_items::Items;
 use std::alloc::Global;
 use std::marker::Model;

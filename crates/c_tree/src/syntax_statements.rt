@@ -4,11 +4,11 @@ ghost use Rattle.c_model.specs.SyntaxDepth.{capped, statement_depth};
 ghost use Rattle.c_tree.specs.SyntaxViews.{statement_of};
 ghost use Rattle.c_tree.specs.SyntaxTrees.{statement_tree};
 
-use c_model::marks::Span;
-use cake_base::{NoMemory, Place};
 use crate::syntax_declarations::Declaration;
 use crate::syntax_depths::statement_form_depth;
 use crate::syntax_expressions::Expr;
+use c_model::marks::Span;
+use cake_base::{NoMemory, Place};
 use sqlite_items::Items;
 use std::alloc::Global;
 use std::marker::Model;
@@ -101,10 +101,7 @@ pub struct Statement {
 pub enum BlockItem {
     Declaration(Declaration),
     /// `case` with its value.
-    Case {
-        value: Expr,
-        place: Place,
-    },
+    Case { value: Expr, place: Place },
     Default(Place),
     Statement(Statement),
 }

@@ -5,7 +5,7 @@ use crate::{
     StatementForm, Suffix, Tree, TreeForm, TypeName, TypeNameForm,
 };
 use c_model::numbers::BinOp;
-use c_model::syntax::{Name, TypeWord};
+use c_model::syntax::{Name, TypeWord, TypeofWord};
 use cake_base::{Bytes, NoMemory, Place};
 use sqlite_items::Items;
 use std::alloc::Global;
@@ -59,7 +59,11 @@ fn int(alloc: Global) -> Result<Specs, NoMemory> {
 }
 
 /// A declarator without `*`, of a name or of none, with these suffixes.
-fn declarator(alloc: Global, of: Option<Name>, suffixes: Items<Suffix>) -> Result<Declarator, NoMemory> {
+fn declarator(
+    alloc: Global,
+    of: Option<Name>,
+    suffixes: Items<Suffix>,
+) -> Result<Declarator, NoMemory> {
     let pointers = Items::new(alloc);
     let form = match of {
         Some(name) => DeclaratorForm::Named {
@@ -264,10 +268,12 @@ fn declarations(rt: HostRuntime) {
     assert_eq!(rt; copy.depth(), 7);
     match copy.form() {
         DeclarationForm::Simple { declarators, .. } => match declarators.get(0) {
-            Some(InitDeclarator {
-                initializer: Some(value),
-                ..
-            }) => {
+            Some(
+                InitDeclarator {
+                    initializer: Some(value),
+                    ..
+                },
+            ) => {
                 let value = value.copy(alloc).expect(&rt, "memory");
                 assert!(rt; matches!(value.form(), InitializerForm::Braces(_)));
             }
@@ -307,10 +313,121 @@ fn a_long_unit(rt: HostRuntime) {
     assert_eq!(rt; copy.depth(), 6);
 }
 
+// The nestings below are those that a thousand nested parts of the grammar allow at most.
+
 #[test]
 fn a_deep_expression(rt: HostRuntime) {
     let alloc = rt.alloc();
-    let made = parenthesized(alloc, 5_000).expect(&rt, "memory");
+    let made = parenthesized(alloc, 1_000).expect(&rt, "memory");
     let copy = made.copy(alloc).expect(&rt, "memory");
-    assert_eq!(rt; copy.depth(), 5_001);
+    assert_eq!(rt; copy.depth(), 1_001);
+}
+
+/// `typeof (typeof (.. int ..))`
+fn typeof_of(alloc: Global, depth: u32) -> Result<Specs, NoMemory> {
+    let mut made = int(alloc)?;
+    for _ in 0..depth {
+        let form = TypeNameForm {
+            specs: made,
+            declarator: declarator(alloc, None, Items::new(alloc))?,
+        };
+        let spec = Spec::TypeofType {
+            word: TypeofWord::Typeof,
+            name: TypeName::new(alloc, form)?,
+            place: HERE,
+        };
+        made = Specs::new(
+            alloc,
+            SpecsForm {
+                specs: one(alloc, spec)?,
+            },
+        )?;
+    }
+    Ok(made)
+}
+
+#[test]
+fn deep_types(rt: HostRuntime) {
+    let alloc = rt.alloc();
+    let made = typeof_of(alloc, 1_000).expect(&rt, "memory");
+    let copy = made.copy(alloc).expect(&rt, "memory");
+    assert_eq!(rt; copy.depth(), 2_001);
+}
+
+/// `{ { .. x .. } }`
+fn nested_braces(alloc: Global, depth: u32) -> Result<Initializer, NoMemory> {
+    let mut made = Initializer::new(alloc, InitializerForm::Expr(identifier(alloc, b"x")?))?;
+    for _ in 0..depth {
+        let item = InitializerItem {
+            designators: Items::new(alloc),
+            value: made,
+        };
+        let braces = Braces {
+            items: one(alloc, item)?,
+            place: HERE,
+        };
+        made = Initializer::new(alloc, InitializerForm::Braces(braces))?;
+    }
+    Ok(made)
+}
+
+#[test]
+fn deep_braces(rt: HostRuntime) {
+    let alloc = rt.alloc();
+    let made = nested_braces(alloc, 1_000).expect(&rt, "memory");
+    let copy = made.copy(alloc).expect(&rt, "memory");
+    assert_eq!(rt; copy.depth(), 3_002);
+}
+
+/// `{ { .. x; .. } }`
+fn nested_blocks(alloc: Global, depth: u32) -> Result<Statement, NoMemory> {
+    let mut made = statement(alloc)?;
+    for _ in 0..depth {
+        let body = Block {
+            items: one(alloc, BlockItem::Statement(made))?,
+            span: SPAN,
+        };
+        made = Statement::new(alloc, StatementForm::Compound { body, span: SPAN })?;
+    }
+    Ok(made)
+}
+
+#[test]
+fn deep_blocks(rt: HostRuntime) {
+    let alloc = rt.alloc();
+    let made = nested_blocks(alloc, 500).expect(&rt, "memory");
+    let copy = made.copy(alloc).expect(&rt, "memory");
+    assert_eq!(rt; copy.depth(), 1_502);
+}
+
+/// `struct { struct { .. int x; .. } x; } x;`, the members of the outermost
+fn nested_members(alloc: Global, depth: u32) -> Result<Specs, NoMemory> {
+    let mut made = int(alloc)?;
+    for _ in 0..depth {
+        let of = declarator(alloc, Some(name(alloc, b"x")?), Items::new(alloc))?;
+        let member = MemberDeclaration::Declarators {
+            specs: made,
+            declarators: one(alloc, of)?,
+        };
+        let spec = Spec::Struct {
+            tag: None,
+            members: one(alloc, member)?,
+            place: HERE,
+        };
+        made = Specs::new(
+            alloc,
+            SpecsForm {
+                specs: one(alloc, spec)?,
+            },
+        )?;
+    }
+    Ok(made)
+}
+
+#[test]
+fn deep_members(rt: HostRuntime) {
+    let alloc = rt.alloc();
+    let made = nested_members(alloc, 1_000).expect(&rt, "memory");
+    let copy = made.copy(alloc).expect(&rt, "memory");
+    assert_eq!(rt; copy.depth(), 2_001);
 }

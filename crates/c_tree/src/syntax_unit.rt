@@ -4,12 +4,12 @@ ghost use Rattle.c_model.specs.SyntaxDepth.{capped, unit_depth};
 ghost use Rattle.c_tree.specs.SyntaxViews.{tree_of_form};
 ghost use Rattle.c_tree.specs.SyntaxTrees.{unit_of};
 
-use cake_base::NoMemory;
 use crate::syntax_declarations::Declaration;
 use crate::syntax_declarators::Declarator;
 use crate::syntax_depths::unit_form_depth;
 use crate::syntax_specifiers::Specs;
 use crate::syntax_statements::Block;
+use cake_base::NoMemory;
 use sqlite_items::Items;
 use std::alloc::Global;
 use std::marker::Model;
