@@ -12,6 +12,7 @@ mod syntax_declarators;
 mod syntax_depths;
 mod syntax_expressions;
 mod syntax_initializers;
+mod syntax_places;
 mod syntax_specifiers;
 mod syntax_statements;
 #[cfg(test)]
