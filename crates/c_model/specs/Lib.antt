@@ -113,6 +113,7 @@ pub mod SyntaxExprActions
 pub mod SyntaxDeclarationActions
 pub mod SyntaxStatementActions
 pub mod SyntaxActions
+pub mod SyntaxExamples
 pub mod Macros
 pub mod ReplacementLists
 pub mod MacroDefinitions

@@ -1,6 +1,6 @@
 -- The unit that a derivation stands for: what each production makes of the symbols of its right side, from the leaves
 -- up; and with it the tree, by its forms, of a list of tokens (ISO/IEC 9899:2024, 6.5 to 6.9).
-use Rattle.std.specs.Prelude.{ℕ, List, [], ◌∷◌, Option, Some, None}
+use Rattle.std.specs.Prelude.{List, [], ◌∷◌, Option, Some, None}
 use Rattle.c_model.specs.declared.grammar.Rule.{Rule}
 use Rattle.c_model.specs.declared.grammar.Rule.TheVariants as r
 use Rattle.c_model.specs.declared.grammar.Tree.{Tree, Leaf, Node', Row_of-Tree, end_of-Tree, more_of-Tree}

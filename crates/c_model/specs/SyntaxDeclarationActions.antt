@@ -16,7 +16,7 @@ use Rattle.c_model.specs.declared.syntax.TypeWord.TheVariants as type
 use Rattle.c_model.specs.declared.tokens.CKind.{CKind}
 use Rattle.c_model.specs.declared.tokens.CKind.TheVariants as content_of
 use Rattle.c_model.specs.SyntaxForms as syntax
-use Rattle.c_model.specs.SyntaxValues.{Meaning, nothing, a_token, an_expr, a_type_name, a_spec, a_qualifier, some_specs, some_members, a_member, an_enumerator, a_declarator, a_suffix, some_parameters, a_parameter, a_declaration, an_init_declarator, an_initializer, an_assertion, a_block, an_external, a_unit, spelled}
+use Rattle.c_model.specs.SyntaxValues.{Meaning, nothing, a_token, an_expr, a_type_name, a_spec, a_qualifier, some_specs, some_members, a_member, an_enumerator, a_declarator, a_suffix, some_parameters, a_parameter, a_declaration, an_init_declarator, an_initializer, an_assertion, a_block, an_external, spelled}
 use Rattle.c_model.specs.Terminals as k
 
 -- specifiers

@@ -1,7 +1,6 @@
 -- What the productions of expressions make of their symbols (ISO/IEC 9899:2024, 6.5).
-use Rattle.std.specs.Prelude.{ℕ, ◌==◌, ℤ, Bool, true, false, if◌then◌else◌, List, [], ◌∷◌, ◌++◌, Option, Some, None}
+use Rattle.std.specs.Prelude.{ℕ, ◌==◌, true, false, if◌then◌else◌, List, [], ◌∷◌, ◌++◌}
 use Rattle.cake_base.specs.declared.places.Place.{Place}
-use Rattle.c_model.specs.declared.numbers.BinOp.{BinOp}
 use Rattle.c_model.specs.declared.numbers.BinOp.TheVariants as bin
 use Rattle.c_model.specs.declared.operators.LogicOp.TheVariants as logic
 use Rattle.c_model.specs.declared.operators.StepOp.{StepOp}

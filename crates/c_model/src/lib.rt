@@ -21,6 +21,7 @@ pub mod positions;
 pub mod runs;
 pub mod steps;
 pub mod syntax;
+pub mod syntax_laws;
 pub mod token_laws;
 pub mod tokens;
 pub mod types;
