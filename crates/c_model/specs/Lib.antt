@@ -4,6 +4,9 @@ pub mod Conversions
 pub mod Types
 pub mod Structures
 pub mod TypesCode
+pub mod SyntaxForms
+pub mod SyntaxDepth
+pub mod SyntaxPlaces
 pub mod Layout
 pub mod Compatible
 pub mod PpTokens
@@ -113,6 +116,12 @@ pub mod Preferences
 pub mod DepthPlace
 pub mod OpenPrimary
 pub mod TerminalsOf
+pub mod SyntaxValues
+pub mod SyntaxExprActions
+pub mod SyntaxDeclarationActions
+pub mod SyntaxStatementActions
+pub mod SyntaxActions
+pub mod SyntaxExamples
 pub mod Macros
 pub mod ReplacementLists
 pub mod MacroDefinitions

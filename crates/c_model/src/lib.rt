@@ -25,6 +25,8 @@ pub mod outcomes;
 pub mod positions;
 pub mod runs;
 pub mod steps;
+pub mod syntax;
+pub mod syntax_laws;
 pub mod token_laws;
 pub mod tokens;
 pub mod typed_examples;

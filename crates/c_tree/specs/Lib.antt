@@ -22,3 +22,9 @@ pub mod UnitTypeCode
 pub mod UnitExprCode
 pub mod UnitStatCode
 pub mod UnitProgramCode
+pub mod SyntaxViews
+pub mod SyntaxTrees
+pub mod SyntaxSizes
+pub mod SyntaxFalls
+pub mod SyntaxLeafCode
+pub mod SyntaxCode

@@ -1,4 +1,4 @@
-//! The trees of a unit: the typed core and the C89 program, each node made, read and copied.
+//! The trees of a unit: those of its grammar, its typed core and its C89 program, each node made, read and copied.
 #![tactic(auto)]
 
 mod core_exprs;
@@ -11,6 +11,17 @@ mod core_stats;
 mod core_tests;
 mod core_types;
 mod core_unit;
+mod syntax_declarations;
+mod syntax_declarators;
+mod syntax_depths;
+mod syntax_expressions;
+mod syntax_initializers;
+mod syntax_places;
+mod syntax_specifiers;
+mod syntax_statements;
+#[cfg(test)]
+mod syntax_tests;
+mod syntax_unit;
 mod unit_exprs;
 mod unit_program;
 mod unit_stats;
@@ -29,6 +40,15 @@ pub use core_unit::{
     Core, CoreForm, CoreFunction, CoreFunctionForm, CoreFunctionName, CoreNamedType, CoreObject,
     CoreObjectForm, CoreStorage,
 };
+pub use syntax_declarations::{Assertion, Declaration, DeclarationForm, InitDeclarator};
+pub use syntax_declarators::{Declarator, DeclaratorForm, Parameter, Suffix};
+pub use syntax_expressions::{Expr, ExprForm};
+pub use syntax_initializers::{Braces, Designator, Initializer, InitializerForm, InitializerItem};
+pub use syntax_specifiers::{
+    Enumerator, MemberDeclaration, Spec, Specs, SpecsForm, TypeName, TypeNameForm,
+};
+pub use syntax_statements::{Block, BlockItem, Statement, StatementForm};
+pub use syntax_unit::{External, Tree, TreeForm};
 pub use unit_exprs::{OutExpr, OutExprForm, OutInit, OutInitForm, OutPrefix, OutSuffix};
 pub use unit_program::{
     C89Form, C89Unit, OutFunction, OutFunctionForm, OutOuter, OutOuterForm, OutStorage,
