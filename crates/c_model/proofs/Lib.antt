@@ -27,5 +27,11 @@ pub mod DecidedGrammar
 pub mod ParserDecided
 pub mod Forget
 pub mod RegainPrimary
+pub mod ClearBrackets
+pub mod OpenFlows
+pub mod RegainTable
+pub mod TokenKinds
+pub mod RegainLoops
+pub mod RegainParameters
 pub mod PpNumberLaws
 pub mod LiteralLaws

@@ -104,6 +104,7 @@ pub mod Untested
 pub mod Preferences
 pub mod DepthPlace
 pub mod OpenPrimary
+pub mod OpenTable
 pub mod TerminalsOf
 pub mod Macros
 pub mod ReplacementLists

@@ -1,5 +1,5 @@
 //! The laws of the grammar: each is the contract of a function that does nothing.
-ghost use Rattle.std.specs.Prelude.{◌≡◌, true, List};
+ghost use Rattle.std.specs.Prelude.{◌≡◌, true, List, Bool};
 ghost use Rattle.c_model.specs.declared.grammar.Rule.{Rule};
 ghost use Rattle.c_model.specs.declared.grammar.Rule.TheVariants as r;
 ghost use Rattle.c_model.specs.declared.grammar.Terminal.{Terminal};
@@ -57,4 +57,9 @@ pub fn primary_test_loses_nothing()
 #[tactic(auto, using(crate::proofs::RegainPrimary::regain_begun_unit))]
 pub fn primary_test_loses_no_front()
     ensures { (ts rest : List Terminal) → Begins open_primary (rule r.Unit) start ts rest → Begins parsed (rule r.Unit) start ts rest }
+{}
+
+#[tactic(auto, using(crate::proofs::RegainParameters::parameters))]
+pub fn temporary()
+    ensures { (b : Bool) → b ≡ b }
 {}
