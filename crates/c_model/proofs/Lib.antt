@@ -26,12 +26,13 @@ pub mod KindSets
 pub mod DecidedGrammar
 pub mod ParserDecided
 pub mod Forget
-pub mod RegainPrimary
 pub mod ClearBrackets
 pub mod OpenFlows
 pub mod RegainTable
 pub mod TokenKinds
 pub mod RegainLoops
 pub mod RegainParameters
+pub mod RegainPrimary
+pub mod RegainAbstract
 pub mod PpNumberLaws
 pub mod LiteralLaws

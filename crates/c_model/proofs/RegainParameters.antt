@@ -23,7 +23,7 @@ use Rattle.c_model.proofs.DecidedGrammar.{step, entry}
 use Rattle.c_model.proofs.ParserDecided.{quiet, checked}
 use Rattle.c_model.proofs.TokenKinds.{is_it, absent}
 use Rattle.c_model.proofs.RegainLoops.{Seen, looped, begun_list}
-use Rattle.c_model.proofs.RegainTable.{IsRegained, begins_with}
+use Rattle.c_model.proofs.RegainTable.{IsRegained, IsDerived, begins_with}
 
 abbrev more : Form
 more = word (k.Comma ∷ []) act.NextParameter then rule r.Param
@@ -88,9 +88,9 @@ edge' s ts rest (Begins.in_maybe (Begins.in_then (Derives.a_word {t = t} {ts = u
 edge' s ts rest (Begins.in_maybe (Begins.in_then (Derives.a_word {t = t} e) (Begins.in_word {t = u} {ts = us} e'))) =
     Begins.in_then (Derives.done (ended s t u us e')) (Begins.in_maybe (Begins.in_then (Derives.a_word e) (Begins.in_word e')))
 
-derived : (s new : Scopes) (ts rest : List Terminal) (xs : List Tree) → Derives parsed (open_table r.Params) s ts xs new rest → mem (ahead tables parsed new rest) (follows r.Params) ≡ true → Derives parsed (table r.Params) s ts xs new rest
+derived : (s new : Scopes) (ts rest : List Terminal) (xs : List Tree) → Derives parsed (open_table r.Params) s ts xs new rest → mem (ahead tables parsed new rest) (follows r.Params) ≡ true → IsDerived (table r.Params) s ts new rest
 unfolding open_table grammar table follows
-derived s new ts rest xs (Derives.both d (Derives.both m t p) q) h = Derives.both d (Derives.both (looped test.ParameterAhead more seen m (behind t h)) t p) q
+derived s new ts rest xs (Derives.both d (Derives.both m t p) q) h = record { trees = xs; is = Derives.both d (Derives.both (looped test.ParameterAhead more seen m (behind t h)) t p) q }
 
 begun : (s : Scopes) (ts rest : List Terminal) → Begins parsed (open_table r.Params) s ts rest → Begins parsed (table r.Params) s ts rest
 unfolding open_table grammar table

@@ -26,9 +26,14 @@ Clear b s = b ≡ true → s.brackets ≡ []
 
 
 
+-- the form derives these tokens, as some trees
+pub record IsDerived (f : Form) (s : Scopes) (ts : List Terminal) (new : Scopes) (rest : List Terminal) : Type 0 where
+  pub trees : List Tree
+  pub is : Derives parsed f s ts trees new rest
+
 -- of one production: what its open form derives before what may follow, and begins, its own form does
 pub record IsRegained (n : Rule) : Type 0 where
-  pub derived : (s new : Scopes) (ts rest : List Terminal) (xs : List Tree) → Clear (not (is_balanced n)) s → Derives parsed (open_table n) s ts xs new rest → mem (ahead tables parsed new rest) (follows n) ≡ true → Derives parsed (table n) s ts xs new rest
+  pub derived : (s new : Scopes) (ts rest : List Terminal) (xs : List Tree) → Clear (not (is_balanced n)) s → Derives parsed (open_table n) s ts xs new rest → mem (ahead tables parsed new rest) (follows n) ≡ true → IsDerived (table n) s ts new rest
   pub begun : (s : Scopes) (ts rest : List Terminal) → Clear (not (is_balanced n)) s → Begins parsed (open_table n) s ts rest → Begins parsed (table n) s ts rest
 
 -- a nonterminal that takes a token begins with one of its first tokens
@@ -53,31 +58,35 @@ inner n F b s w c e = c (into b (is_balanced n) (and_right (within tables F (fol
 
 module _ (each : (n : Rule) → IsRegained n) where
   pub regain : {f : Form} {s new : Scopes} {ts rest : List Terminal} {xs : List Tree} → Derives opened f s ts xs new rest
-      → (F : List ℕ) (b : Bool) → flows f F b ≡ true → Clear b s → mem (ahead tables parsed new rest) F ≡ true → Derives parsed f s ts xs new rest
+      → (F : List ℕ) (b : Bool) → flows f F b ≡ true → Clear b s → mem (ahead tables parsed new rest) F ≡ true → IsDerived f s ts new rest
   unfolding flows leads first nullable
-  regain (Derives.a_word e) F b w c h = Derives.a_word e
+  regain (Derives.a_word e) F b w c h = record { trees = _; is = Derives.a_word e }
   regain {f = rule n} {s = s} (Derives.a_rule {new = mid} {xs = xs} d) F b w c h =
       let k = ahead_keeps tables parsed quiet checked n mid _ (within_mem tables _ F (follows n) (and_left _ (b || is_balanced n) w) h) in
       let c' = inner n F b s w c in
-      Derives.a_rule ((each n).derived _ _ _ _ _ c' (regain d (follows n) (not (is_balanced n)) (flow n) c' k) k)
-  regain Derives.nothing F b w c h = Derives.nothing
+      let d' = regain d (follows n) (not (is_balanced n)) (flow n) c' k in
+      record { trees = _; is = Derives.a_rule ((each n).derived s mid _ _ d'.trees c' d'.is k).is }
+  regain Derives.nothing F b w c h = record { trees = []; is = Derives.nothing }
   regain {f = f then g} (Derives.both d e p) F b w c h =
       let e' = regain e F (clear f b) (and_right (flows f (leads tables g F) b) _ w) (λ k. stays_clear d b c k) h in
-      Derives.both (regain d (leads tables g F) b (and_left _ (flows g F (clear f b)) w) c (lead tables parsed quiet checked F e' h)) e' p
-  regain {f = f or g} (Derives.left d) F b w c h = Derives.left (regain d F b (and_left _ (flows g F b) w) c h)
-  regain {f = f or g} (Derives.right d) F b w c h = Derives.right (regain d F b (and_right (flows f F b) _ w) c h)
-  regain Derives.skip F b w c h = Derives.skip
-  regain (Derives.take d) F b w c h = Derives.take (regain d F b w c h)
-  regain Derives.stop F b w c h = Derives.stop
+      let d' = regain d (leads tables g F) b (and_left _ (flows g F (clear f b)) w) c (lead tables parsed quiet checked F e'.is h) in
+      record { trees = _; is = Derives.both d'.is e'.is refl }
+  regain {f = f or g} (Derives.left d) F b w c h = record { trees = _; is = Derives.left (regain d F b (and_left _ (flows g F b) w) c h).is }
+  regain {f = f or g} (Derives.right d) F b w c h = record { trees = _; is = Derives.right (regain d F b (and_right (flows f F b) _ w) c h).is }
+  regain Derives.skip F b w c h = record { trees = []; is = Derives.skip }
+  regain (Derives.take d) F b w c h = record { trees = _; is = Derives.take (regain d F b w c h).is }
+  regain Derives.stop F b w c h = record { trees = []; is = Derives.stop }
   regain {f = many f} (Derives.turn d e p) F b w c h =
       let e' = regain e F b w (λ k. stays_clear d b c (steady b _ (and_left _ (flows f (first tables f ++ F) b) w) k)) h in
-      Derives.turn (regain d (first tables f ++ F) b (and_right (not b || clear f b) _ w) c (lead tables parsed quiet checked F e' h)) e' p
-  regain {f = when p f g} (Derives.chosen a d) F b w c h = Derives.chosen a (regain d F b (and_left _ (flows g F b) w) c h)
-  regain {f = when p f g} (Derives.other a d) F b w c h = Derives.other a (regain d F b (and_right (flows f F b) _ w) c h)
-  regain (Derives.done a) F b w c h = Derives.done a
+      let d' = regain d (first tables f ++ F) b (and_right (not b || clear f b) _ w) c (lead tables parsed quiet checked F e'.is h) in
+      record { trees = _; is = Derives.turn d'.is e'.is refl }
+  regain {f = when p f g} (Derives.chosen a d) F b w c h = record { trees = _; is = Derives.chosen a (regain d F b (and_left _ (flows g F b) w) c h).is }
+  regain {f = when p f g} (Derives.other a d) F b w c h = record { trees = _; is = Derives.other a (regain d F b (and_right (flows f F b) _ w) c h).is }
+  regain (Derives.done a) F b w c h = record { trees = []; is = Derives.done a }
   regain {f = loop q f} (Derives.again a d e p) F b w c h =
       let e' = regain e F b w (λ k. stays_clear d b c (steady b _ (and_left _ (flows f (first tables f ++ F) b) w) k)) h in
-      Derives.again a (regain d (first tables f ++ F) b (and_right (not b || clear f b) _ w) c (lead tables parsed quiet checked F e' h)) e' p
+      let d' = regain d (first tables f ++ F) b (and_right (not b || clear f b) _ w) c (lead tables parsed quiet checked F e'.is h) in
+      record { trees = _; is = Derives.again a d'.is e'.is refl }
 
   -- what is derived is begun, whatever comes behind it
   pub front : {f : Form} {s new : Scopes} {ts rest : List Terminal} {xs : List Tree} → Derives opened f s ts xs new rest
@@ -92,7 +101,7 @@ module _ (each : (n : Rule) → IsRegained n) where
       let w' = and_left _ (flows g F (clear f b)) w in
       let e' = front e F (clear f b) (and_right (flows f (leads tables g F) b) _ w) (λ k. stays_clear d b c k) in
       elim (entry tables parsed quiet checked e') [
-        | inl m ↦ Begins.in_then (regain d (leads tables g F) b w' c (mem_left _ _ _ m.begun)) e'
+        | inl m ↦ Begins.in_then (regain d (leads tables g F) b w' c (mem_left _ _ _ m.begun)).is e'
         | inr q ↦ subst (λ z. Begins parsed (f then g) s ts z) (sym q) (Begins.in_first (front d (leads tables g F) b w' c))
       ]
   front {f = f or g} (Derives.left d) F b w c = Begins.in_left (front d F b (and_left _ (flows g F b) w) c)
@@ -104,7 +113,7 @@ module _ (each : (n : Rule) → IsRegained n) where
       let w' = and_right (not b || clear f b) _ w in
       let e' = front e F b w (λ k. stays_clear d b c (steady b _ (and_left _ (flows f (first tables f ++ F) b) w) k)) in
       elim (entry tables parsed quiet checked e') [
-        | inl m ↦ Begins.in_later (regain d (first tables f ++ F) b w' c (mem_left _ _ _ m.begun)) e'
+        | inl m ↦ Begins.in_later (regain d (first tables f ++ F) b w' c (mem_left _ _ _ m.begun)).is e'
         | inr q ↦ subst (λ z. Begins parsed (many f) s ts z) (sym q) (Begins.in_turn (front d (first tables f ++ F) b w' c))
       ]
   front {f = when p f g} (Derives.chosen a d) F b w c = Begins.in_chosen a (front d F b (and_left _ (flows g F b) w) c)
@@ -114,7 +123,7 @@ module _ (each : (n : Rule) → IsRegained n) where
       let w' = and_right (not b || clear f b) _ w in
       let e' = front e F b w (λ k. stays_clear d b c (steady b _ (and_left _ (flows f (first tables f ++ F) b) w) k)) in
       elim (entry tables parsed quiet checked e') [
-        | inl m ↦ Begins.in_further a (regain d (first tables f ++ F) b w' c (mem_left _ _ _ m.begun)) e'
+        | inl m ↦ Begins.in_further a (regain d (first tables f ++ F) b w' c (mem_left _ _ _ m.begun)).is e'
         | inr z ↦ subst (λ z. Begins parsed (loop q f) s ts z) (sym z) (Begins.in_again a (front d (first tables f ++ F) b w' c))
       ]
 
@@ -131,7 +140,7 @@ module _ (each : (n : Rule) → IsRegained n) where
       let w' = and_left _ (flows g F (clear f b)) w in
       let e' = regain_begun e F (clear f b) (and_right (flows f (leads tables g F) b) _ w) (λ k. stays_clear d b c k) in
       elim (entry tables parsed quiet checked e') [
-        | inl m ↦ Begins.in_then (regain d (leads tables g F) b w' c (mem_left _ _ _ m.begun)) e'
+        | inl m ↦ Begins.in_then (regain d (leads tables g F) b w' c (mem_left _ _ _ m.begun)).is e'
         | inr q ↦ subst (λ z. Begins parsed (f then g) s ts z) (sym q) (Begins.in_first (front d (leads tables g F) b w' c))
       ]
   regain_begun {f = f or g} (Begins.in_left d) F b w c = Begins.in_left (regain_begun d F b (and_left _ (flows g F b) w) c)
@@ -142,7 +151,7 @@ module _ (each : (n : Rule) → IsRegained n) where
       let w' = and_right (not b || clear f b) _ w in
       let e' = regain_begun e F b w (λ k. stays_clear d b c (steady b _ (and_left _ (flows f (first tables f ++ F) b) w) k)) in
       elim (entry tables parsed quiet checked e') [
-        | inl m ↦ Begins.in_later (regain d (first tables f ++ F) b w' c (mem_left _ _ _ m.begun)) e'
+        | inl m ↦ Begins.in_later (regain d (first tables f ++ F) b w' c (mem_left _ _ _ m.begun)).is e'
         | inr q ↦ subst (λ z. Begins parsed (many f) s ts z) (sym q) (Begins.in_turn (front d (first tables f ++ F) b w' c))
       ]
   regain_begun {f = when p f g} (Begins.in_chosen a d) F b w c = Begins.in_chosen a (regain_begun d F b (and_left _ (flows g F b) w) c)
@@ -152,6 +161,6 @@ module _ (each : (n : Rule) → IsRegained n) where
       let w' = and_right (not b || clear f b) _ w in
       let e' = regain_begun e F b w (λ k. stays_clear d b c (steady b _ (and_left _ (flows f (first tables f ++ F) b) w) k)) in
       elim (entry tables parsed quiet checked e') [
-        | inl m ↦ Begins.in_further a (regain d (first tables f ++ F) b w' c (mem_left _ _ _ m.begun)) e'
+        | inl m ↦ Begins.in_further a (regain d (first tables f ++ F) b w' c (mem_left _ _ _ m.begun)).is e'
         | inr z ↦ subst (λ z. Begins parsed (loop q f) s ts z) (sym z) (Begins.in_again a (front d (first tables f ++ F) b w' c))
       ]

@@ -1,11 +1,11 @@
 -- What the kind of a token in the scopes tells of the token itself, and the other way.
-use Rattle.std.proofs.Common.{◌≡◌, ℕ, Bool, true, false, not, ◌&&◌, ◌||◌, List, [], ◌∷◌, refl}
+use Rattle.std.proofs.Common.{◌≡◌, ℕ, Bool, true, false, not, ◌&&◌, ◌||◌, List, [], ◌∷◌, refl, ◌∙◌}
 use Rattle.std.proofs.lemmas.Bool.{eqb-true}
 use Rattle.std.specs.Prelude.{◌==◌, if◌then◌else◌}
 use Rattle.c_model.specs.declared.grammar.Terminal.{Terminal}
 use Rattle.c_model.specs.GrammarForm.{mem}
 use Rattle.c_model.specs.NameScopes.{Scopes, kind, bracket_kind, is_closing, closes, is_type}
-use Rattle.c_model.proofs.KindSets.{clash, or_cases}
+use Rattle.c_model.proofs.KindSets.{clash, or_cases, mem_one}
 use mathlib.Core.Logic.{◌⊎◌, inl, inr}
 
 -- a set with no kind of identifiers and of brackets inside attributes
@@ -53,7 +53,7 @@ unnamed : (F : List ℕ) (b x y : Bool) (j : ℕ) → b ≡ false → mem (if b 
 unnamed F true x y j e h = absurd (cc)
 unnamed F false x y j e h = h
 
-decide : (b : Bool) → (b ≡ true → ⊥) → b ≡ false
+pub decide : (b : Bool) → (b ≡ true → ⊥) → b ≡ false
 decide true n = absurd (n refl)
 decide false n = refl
 
@@ -61,3 +61,20 @@ pub absent : (F : List ℕ) (k : ℕ) → (k == 111) ≡ false → mem k F ≡ f
 absent F k n a b c s t h = decide (t.kind == k) (λ e.
     let q : t.kind ≡ k = eqb-true t.kind k e in
     clash _ (unnamed F (t.kind == 111) (is_type s.entries t.name) s.reading.typed (bracket_kind s.brackets t.kind) (rw q n) h) (rw q (unseen F s.brackets k a b c)))
+
+-- a token that is no identifier and no closing bracket is of its own kind in any scopes
+itself : (k : ℕ) (brackets : List ℕ) → is_closing k ≡ false → bracket_kind brackets k ≡ k
+itself k [] h = refl
+itself k (last ∷ brackets) h = rw h refl
+
+own : (b x y : Bool) (j : ℕ) → b ≡ false → (if b then (if x then (if y then 113 else 112) else 111) else j) ≡ j
+own true x y j h = absurd (cc)
+own false x y j h = refl
+
+pub of_kind : (k : ℕ) → (k == 111) ≡ false → is_closing k ≡ false → (s : Scopes) (t : Terminal) → (t.kind == k) ≡ true → kind s t ≡ k
+of_kind k n c s t e =
+    let q : t.kind ≡ k = eqb-true t.kind k e in
+    own (t.kind == 111) (is_type s.entries t.name) s.reading.typed (bracket_kind s.brackets t.kind) (rw q n) ∙ rw q (itself k s.brackets c)
+
+pub shown : (k : ℕ) → (k == 111) ≡ false → is_closing k ≡ false → (s : Scopes) (t : Terminal) → (t.kind == k) ≡ true → mem (kind s t) (k ∷ []) ≡ true
+shown k n c s t e = mem_one (kind s t) k (of_kind k n c s t e)

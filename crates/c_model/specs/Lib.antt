@@ -103,7 +103,6 @@ pub mod ParserTests
 pub mod Untested
 pub mod Preferences
 pub mod DepthPlace
-pub mod OpenPrimary
 pub mod OpenTable
 pub mod TerminalsOf
 pub mod Macros

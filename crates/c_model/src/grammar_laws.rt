@@ -10,7 +10,6 @@ ghost use Rattle.c_model.specs.GrammarForm.{rule};
 ghost use Rattle.c_model.specs.NameScopes.{Scopes, start};
 ghost use Rattle.c_model.specs.SyntaxTree.{c_language};
 ghost use Rattle.c_model.specs.Grammar.{grammar};
-ghost use Rattle.c_model.specs.OpenPrimary.{open_primary};
 ghost use Rattle.c_model.specs.Untested.{untested};
 ghost use Rattle.c_model.specs.ParserSets.{tables};
 ghost use Rattle.c_model.specs.ParserTable.{table};
@@ -47,19 +46,7 @@ pub fn untested_table_is_grammar()
     ensures { (rule : Rule) → untested (table rule) ≡ grammar rule }
 {}
 
-/// The test at the parenthesis of a primary expression loses no derivation.
-#[tactic(auto, using(crate::proofs::RegainPrimary::regain_unit))]
-pub fn primary_test_loses_nothing()
-    ensures { (ts : List Terminal) (xs : List Tree) (new : Scopes) (rest : List Terminal) → Derives open_primary (rule r.Unit) start ts xs new rest → Derives parsed (rule r.Unit) start ts xs new rest }
-{}
-
-/// Nor does it lose a beginning.
-#[tactic(auto, using(crate::proofs::RegainPrimary::regain_begun_unit))]
-pub fn primary_test_loses_no_front()
-    ensures { (ts rest : List Terminal) → Begins open_primary (rule r.Unit) start ts rest → Begins parsed (rule r.Unit) start ts rest }
-{}
-
-#[tactic(auto, using(crate::proofs::RegainParameters::parameters))]
+#[tactic(auto, using(crate::proofs::RegainParameters::parameters, crate::proofs::RegainPrimary::primary, crate::proofs::RegainAbstract::abstract_declarator))]
 pub fn temporary()
     ensures { (b : Bool) → b ≡ b }
 {}
