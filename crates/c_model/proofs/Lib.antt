@@ -34,5 +34,6 @@ pub mod RegainLoops
 pub mod RegainParameters
 pub mod RegainPrimary
 pub mod RegainAbstract
+pub mod RegainCommas
 pub mod PpNumberLaws
 pub mod LiteralLaws

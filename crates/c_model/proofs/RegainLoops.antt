@@ -43,3 +43,9 @@ pub begun_list : (p : Test) (f g : Form) → Seen p f
 begun_list p f g seen edge edge' Begins.yet = Begins.yet
 begun_list p f g seen edge edge' (Begins.in_first b) = begun_turns p f g seen edge b
 begun_list p f g seen edge edge' (Begins.in_then d b) = begun_behind p f g seen edge' d b
+
+-- what is begun behind a form
+pub then_begun : (f g g' : Form) → ((s : Scopes) (ts rest : List Terminal) → Begins parsed g s ts rest → Begins parsed g' s ts rest) → {s : Scopes} {ts rest : List Terminal} → Begins parsed (f then g) s ts rest → Begins parsed (f then g') s ts rest
+then_begun f g g' h Begins.yet = Begins.yet
+then_begun f g g' h (Begins.in_first d) = Begins.in_first d
+then_begun f g g' h (Begins.in_then {mid = mid} d e) = Begins.in_then d (h mid _ _ e)
