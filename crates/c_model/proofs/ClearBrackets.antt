@@ -10,7 +10,7 @@ use Rattle.c_model.specs.declared.grammar.Reading.{Reading}
 use Rattle.c_model.specs.declared.grammar.Frame.{Frame}
 use Rattle.c_model.specs.declared.grammar.Tree.{Tree}
 use Rattle.c_model.specs.GrammarForm.{Form, word, rule, empty, ◌then◌, ◌or◌, maybe, many, when, loop, mem}
-use Rattle.c_model.specs.NameScopes.{Scopes, kind, after, close, leave, leave_parameters, bracket_kind, is_closing, closes, is_type}
+use Rattle.c_model.specs.NameScopes.{Scopes, kind, after, close, leave, leave_parameters, bracket_kind, is_closing, is_given, own_kind, closes, is_type}
 use Rattle.c_model.specs.Derivation.{Derives}
 use Rattle.c_model.specs.DecidedTable.{within}
 use Rattle.c_model.specs.OpenTable.{opened, open_table}
@@ -79,15 +79,20 @@ is_one k h = three (k == 67) (k == 69) (k == 71) h
     three false false true h = refl
     three false false false h = h
 
+given : (c : Bool) (k : ℕ) → mem (if c then 117 else k) closing ≡ true → mem k closing ≡ true
+unfolding mem
+given true k h = absurd (cc)
+given false k h = h
+
 unheld : (brackets : List ℕ) (k : ℕ) → mem (bracket_kind brackets k) closing ≡ true → brackets ≡ []
 unfolding mem
 unheld [] k h = refl
-unheld (last ∷ brackets) k h = absurd (never (is_closing k) (closes last k) k (is_one k) h)
+unheld (last ∷ brackets) k h = absurd (never (is_closing k) (closes last k) (own_kind k) (λ e. is_one k (given (is_given k) k e)) h)
   where
-    never : (c d : Bool) (k : ℕ) → (mem k closing ≡ true → c ≡ true) → mem (if c then (if d then 116 else 117) else k) closing ≡ true → ⊥
-    never true true k n h = cc
-    never true false k n h = cc
-    never false d k n h = clash false (n h) refl
+    never : (c d : Bool) (j : ℕ) → (mem j closing ≡ true → c ≡ true) → mem (if c then (if d then 116 else 117) else j) closing ≡ true → ⊥
+    never true true j n h = cc
+    never true false j n h = cc
+    never false d j n h = clash false (n h) refl
 
 no_name : (b x y : Bool) (j : ℕ) → mem (if b then (if x then (if y then 113 else 112) else 111) else j) closing ≡ true → mem j closing ≡ true
 unfolding mem
@@ -96,7 +101,7 @@ no_name true true false j h = absurd (cc)
 no_name true false y j h = absurd (cc)
 no_name false x y j h = h
 
-at_closing : (s : Scopes) (t : Terminal) → mem (kind s t) closing ≡ true → s.brackets ≡ []
+pub at_closing : (s : Scopes) (t : Terminal) → mem (kind s t) closing ≡ true → s.brackets ≡ []
 at_closing s t h = unheld s.brackets t.kind (no_name (t.kind == 111) (is_type s.entries t.name) s.reading.typed (bracket_kind s.brackets t.kind) h)
 
 -- none is held open behind a nonterminal but the balanced tokens, where none was before it

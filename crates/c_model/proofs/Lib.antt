@@ -35,5 +35,7 @@ pub mod RegainParameters
 pub mod RegainPrimary
 pub mod RegainAbstract
 pub mod RegainCommas
+pub mod BracketKinds
+pub mod ScannedAttributes
 pub mod PpNumberLaws
 pub mod LiteralLaws

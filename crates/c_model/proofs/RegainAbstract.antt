@@ -44,7 +44,7 @@ is_star s t h = is_it 74 (refl, refl, refl, refl, refl) s t h
 
 bracket_shown : (s : Scopes) (t : Terminal) → (t.kind == 68) ≡ true → mem (kind s t) (68 ∷ []) ≡ true
 unfolding mem
-bracket_shown s t h = shown 68 refl refl s t h
+bracket_shown s t h = shown 68 refl refl refl s t h
 
 -- an abstract declarator comes next: one of its first tokens, and no attribute
 abbrev Opens : List Terminal → Type 0
