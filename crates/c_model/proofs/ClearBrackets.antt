@@ -11,11 +11,12 @@ use Rattle.c_model.specs.declared.grammar.Frame.{Frame}
 use Rattle.c_model.specs.declared.grammar.Tree.{Tree}
 use Rattle.c_model.specs.GrammarForm.{Form, word, rule, empty, ◌then◌, ◌or◌, maybe, many, when, loop, mem}
 use Rattle.c_model.specs.NameScopes.{Scopes, kind, after, close, leave, leave_parameters, bracket_kind, is_closing, is_given, own_kind, closes, is_type}
-use Rattle.c_model.specs.Derivation.{Derives}
+use Rattle.c_model.specs.Derivation.{Language, Derives}
 use Rattle.c_model.specs.DecidedTable.{within}
 use Rattle.c_model.specs.OpenTable.{opened, open_table}
 use Rattle.c_model.specs.ParserTable.{table}
 use Rattle.c_model.specs.Grammar.{grammar}
+use Rattle.c_model.specs.ParserTests.{parsed}
 use Rattle.c_model.specs.ParserSets.{tables}
 use Rattle.c_model.proofs.KindSets.{and_left, and_right, or_cases, not_true, within_mem, clash}
 use mathlib.Core.Logic.{◌⊎◌, inl, inr}
@@ -167,25 +168,99 @@ clear_rule r.Typeof h = refl
 clear_rule r.If h = refl
 clear_rule r.For h = refl
 
+parsed_rule : (n : Rule) → is_balanced n ≡ false → clear (table n) true ≡ true
+unfolding clear holds is_balanced within mem table
+parsed_rule r.Balanced h = absurd (cc)
+parsed_rule r.Unit h = refl
+parsed_rule r.External h = refl
+parsed_rule r.Function h = refl
+parsed_rule r.Declaration h = refl
+parsed_rule r.Sassert h = refl
+parsed_rule r.Attrs h = refl
+parsed_rule r.Attr h = refl
+parsed_rule r.Specs h = refl
+parsed_rule r.Spec h = refl
+parsed_rule r.Storage h = refl
+parsed_rule r.Typespec h = refl
+parsed_rule r.Qual h = refl
+parsed_rule r.Squals h = refl
+parsed_rule r.Struct h = refl
+parsed_rule r.Members h = refl
+parsed_rule r.Member h = refl
+parsed_rule r.Enum h = refl
+parsed_rule r.Enumr h = refl
+parsed_rule r.Declarator h = refl
+parsed_rule r.Direct h = refl
+parsed_rule r.Suffix h = refl
+parsed_rule r.Params h = refl
+parsed_rule r.Param h = refl
+parsed_rule r.Typename h = refl
+parsed_rule r.Abstract h = refl
+parsed_rule r.Adirect h = refl
+parsed_rule r.Initdecl h = refl
+parsed_rule r.Init h = refl
+parsed_rule r.Braces h = refl
+parsed_rule r.Item h = refl
+parsed_rule r.Desig h = refl
+parsed_rule r.Block h = refl
+parsed_rule r.Label h = refl
+parsed_rule r.Statement h = refl
+parsed_rule r.Expr h = refl
+parsed_rule r.Assign h = refl
+parsed_rule r.Cond h = refl
+parsed_rule r.Oror h = refl
+parsed_rule r.Andand h = refl
+parsed_rule r.Bor h = refl
+parsed_rule r.Bxor h = refl
+parsed_rule r.Band h = refl
+parsed_rule r.Equal h = refl
+parsed_rule r.Rel h = refl
+parsed_rule r.Shift h = refl
+parsed_rule r.Sum h = refl
+parsed_rule r.Product h = refl
+parsed_rule r.Cast h = refl
+parsed_rule r.Unary h = refl
+parsed_rule r.Postfix h = refl
+parsed_rule r.Primary h = refl
+parsed_rule r.Literal h = refl
+parsed_rule r.Declared h = refl
+parsed_rule r.ParamSpecs h = refl
+parsed_rule r.Body h = refl
+parsed_rule r.Typeof h = refl
+parsed_rule r.If h = refl
+parsed_rule r.For h = refl
+
+-- the language of a table
+abbrev over : (Rule → Form) → Language
+over body = record parsed { body = body }
+
+module _ (body : Rule → Form) (ok : (n : Rule) → is_balanced n ≡ false → clear (body n) true ≡ true) where
+  pub stays : {f : Form} {s new : Scopes} {ts rest : List Terminal} {xs : List Tree} → Derives (over body) f s ts xs new rest → (b : Bool) → (b ≡ true → s.brackets ≡ []) → clear f b ≡ true → new.brackets ≡ []
+  unfolding clear
+  stays {f = word ks a} (Derives.a_word {s = s} {t = t} e) b c h =
+      let n = not_true _ (and_left _ (b || within tables ks closing) h) in
+      kept a s t n ∙ elim (or_cases b (within tables ks closing) (and_right (not (holds a)) _ h)) [
+        | inl k ↦ c k
+        | inr k ↦ at_closing s t (within_mem tables (kind s t) ks closing k e)
+      ]
+  stays {f = rule n} (Derives.a_rule {new = mid} d) b c h =
+      closed_keeps n mid ∙ stays d true (λ e. c (and_left b (not (is_balanced n)) h)) (ok n (not_true _ (and_right b _ h)))
+  stays Derives.nothing b c h = c h
+  stays {f = f then g} (Derives.both d e _) b c h = stays e (clear f b) (λ k. stays d b c k) h
+  stays {f = f or g} (Derives.left d) b c h = stays d b c (and_left (clear f b) (clear g b) h)
+  stays {f = f or g} (Derives.right d) b c h = stays d b c (and_right (clear f b) (clear g b) h)
+  stays {f = maybe f} Derives.skip b c h = c (and_left b (clear f b) h)
+  stays {f = maybe f} (Derives.take d) b c h = stays d b c (and_right b (clear f b) h)
+  stays {f = many f} Derives.stop b c h = c (and_left b (clear f b) h)
+  stays {f = many f} (Derives.turn d e _) b c h = stays e b (λ k. stays d b c (and_right b (clear f b) h)) h
+  stays {f = when p f g} (Derives.chosen _ d) b c h = stays d b c (and_left (clear f b) (clear g b) h)
+  stays {f = when p f g} (Derives.other _ d) b c h = stays d b c (and_right (clear f b) (clear g b) h)
+  stays {f = loop p f} (Derives.done _) b c h = c (and_left b (clear f b) h)
+  stays {f = loop p f} (Derives.again _ d e _) b c h = stays e b (λ k. stays d b c (and_right b (clear f b) h)) h
+
 pub stays_clear : {f : Form} {s new : Scopes} {ts rest : List Terminal} {xs : List Tree} → Derives opened f s ts xs new rest → (b : Bool) → (b ≡ true → s.brackets ≡ []) → clear f b ≡ true → new.brackets ≡ []
-unfolding clear
-stays_clear {f = word ks a} (Derives.a_word {s = s} {t = t} e) b c h =
-    let n = not_true _ (and_left _ (b || within tables ks closing) h) in
-    kept a s t n ∙ elim (or_cases b (within tables ks closing) (and_right (not (holds a)) _ h)) [
-      | inl k ↦ c k
-      | inr k ↦ at_closing s t (within_mem tables (kind s t) ks closing k e)
-    ]
-stays_clear {f = rule n} (Derives.a_rule {new = mid} d) b c h =
-    closed_keeps n mid ∙ stays_clear d true (λ e. c (and_left b (not (is_balanced n)) h)) (clear_rule n (not_true _ (and_right b _ h)))
-stays_clear Derives.nothing b c h = c h
-stays_clear {f = f then g} (Derives.both d e _) b c h = stays_clear e (clear f b) (λ k. stays_clear d b c k) h
-stays_clear {f = f or g} (Derives.left d) b c h = stays_clear d b c (and_left (clear f b) (clear g b) h)
-stays_clear {f = f or g} (Derives.right d) b c h = stays_clear d b c (and_right (clear f b) (clear g b) h)
-stays_clear {f = maybe f} Derives.skip b c h = c (and_left b (clear f b) h)
-stays_clear {f = maybe f} (Derives.take d) b c h = stays_clear d b c (and_right b (clear f b) h)
-stays_clear {f = many f} Derives.stop b c h = c (and_left b (clear f b) h)
-stays_clear {f = many f} (Derives.turn d e _) b c h = stays_clear e b (λ k. stays_clear d b c (and_right b (clear f b) h)) h
-stays_clear {f = when p f g} (Derives.chosen _ d) b c h = stays_clear d b c (and_left (clear f b) (clear g b) h)
-stays_clear {f = when p f g} (Derives.other _ d) b c h = stays_clear d b c (and_right (clear f b) (clear g b) h)
-stays_clear {f = loop p f} (Derives.done _) b c h = c (and_left b (clear f b) h)
-stays_clear {f = loop p f} (Derives.again _ d e _) b c h = stays_clear e b (λ k. stays_clear d b c (and_right b (clear f b) h)) h
+stays_clear d b c h = stays open_table clear_rule d b c h
+
+-- likewise by the parser's table
+pub parsed_clear : {f : Form} {s new : Scopes} {ts rest : List Terminal} {xs : List Tree} → Derives parsed f s ts xs new rest → (b : Bool) → (b ≡ true → s.brackets ≡ []) → clear f b ≡ true → new.brackets ≡ []
+parsed_clear d b c h = stays table parsed_rule d b c h

@@ -37,5 +37,8 @@ pub mod RegainAbstract
 pub mod RegainCommas
 pub mod BracketKinds
 pub mod ScannedAttributes
+pub mod BehindAttributes
+pub mod RegainDeclaration
+pub mod RegainBlock
 pub mod PpNumberLaws
 pub mod LiteralLaws

@@ -44,6 +44,13 @@ begins_with h d = elim (step tables parsed quiet checked d) [
   | inr m ↦ absurd (clash _ m.hollow h)
 ]
 
+-- likewise a form
+pub starts : {f : Form} {s new : Scopes} {ts rest : List Terminal} {xs : List Tree} → nullable tables f ≡ false → Derives parsed f s ts xs new rest → mem (ahead tables parsed s ts) (first tables f) ≡ true
+starts h d = elim (step tables parsed quiet checked d) [
+  | inl m ↦ m.begun
+  | inr m ↦ absurd (clash _ m.hollow h)
+]
+
 steady : (b c : Bool) → (not b || c) ≡ true → b ≡ true → c ≡ true
 steady true c h e = h
 steady false c h e = absurd (cc)

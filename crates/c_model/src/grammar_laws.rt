@@ -46,7 +46,7 @@ pub fn untested_table_is_grammar()
     ensures { (rule : Rule) → untested (table rule) ≡ grammar rule }
 {}
 
-#[tactic(auto, using(crate::proofs::RegainParameters::parameters, crate::proofs::RegainPrimary::primary, crate::proofs::RegainAbstract::abstract_declarator, crate::proofs::RegainCommas::enumeration, crate::proofs::ScannedAttributes::over_attributes))]
+#[tactic(auto, using(crate::proofs::RegainParameters::parameters, crate::proofs::RegainPrimary::primary, crate::proofs::RegainAbstract::abstract_declarator, crate::proofs::RegainCommas::enumeration, crate::proofs::RegainBlock::block_items))]
 pub fn temporary()
     ensures { (b : Bool) → b ≡ b }
 {}
