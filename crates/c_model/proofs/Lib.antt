@@ -40,5 +40,7 @@ pub mod ScannedAttributes
 pub mod BehindAttributes
 pub mod RegainDeclaration
 pub mod RegainBlock
+pub mod Loosen
+pub mod RegainUnit
 pub mod PpNumberLaws
 pub mod LiteralLaws
