@@ -11,6 +11,7 @@ use Rattle.c_model.specs.GrammarForm.{Form, word, rule, ◌then◌, maybe, many,
 use Rattle.c_model.specs.Terminals as k
 use Rattle.c_model.specs.NameScopes.{Scopes, start}
 use Rattle.c_model.specs.Derivation.{Derives, Begins}
+use Rattle.c_model.specs.FaultPlace.{FaultsAt}
 use Rattle.c_model.specs.Grammar.{grammar, token}
 use Rattle.c_model.specs.DecidedTable.{within}
 use Rattle.c_model.specs.ParserWalk.{ahead}
@@ -165,3 +166,12 @@ unit_back ts xs new rest d = back d
 
 pub front_back : (ts rest : List Terminal) → Begins parsed (rule r.Unit) start ts rest → Begins opened (rule r.Unit) start ts rest
 front_back ts rest d = back_begun d
+
+-- the first fault by the parser's table is that by the open table
+pub open_fault : (ts : List Terminal) (k : ℕ) → FaultsAt parsed (rule r.Unit) start ts k → FaultsAt opened (rule r.Unit) start ts k
+open_fault ts k f = record {
+  within = f.within;
+  begun = back_begun f.begun;
+  no_more = λ rest d. f.no_more rest (front ts rest d);
+  not_whole = λ xs new d. let e = whole ts xs new d in f.not_whole e.0 new e.1;
+}
