@@ -54,7 +54,7 @@ parameters_keep : (s : Scopes) (frames : List Frame) → (leave_parameters s fra
 parameters_keep s [] = refl
 parameters_keep s (frame ∷ frames) = refl
 
-kept : (a : Act) (s : Scopes) (t : Terminal) → holds a ≡ false → (after a s t).brackets ≡ s.brackets
+pub kept : (a : Act) (s : Scopes) (t : Terminal) → holds a ≡ false → (after a s t).brackets ≡ s.brackets
 unfolding holds
 kept act.OpenBalanced s t h = absurd (cc)
 kept act.CloseBalanced s t h = absurd (cc)

@@ -40,6 +40,8 @@ pub mod ScannedAttributes
 pub mod BehindAttributes
 pub mod RegainDeclaration
 pub mod RegainBlock
+pub mod BalancedForms
+pub mod RegainCast
 pub mod Loosen
 pub mod RegainUnit
 pub mod PpNumberLaws

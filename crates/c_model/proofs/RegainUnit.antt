@@ -32,6 +32,7 @@ use Rattle.c_model.proofs.RegainAbstract.{abstract_declarator}
 use Rattle.c_model.proofs.RegainCommas.{braces, enumeration}
 use Rattle.c_model.proofs.RegainDeclaration.{declaration}
 use Rattle.c_model.proofs.RegainBlock.{block_items}
+use Rattle.c_model.proofs.RegainCast.{cast_expression, unary_expression}
 
 unchanged : (n : Rule) → open_table n ≡ table n → IsRegained n
 unchanged n q = record { derived = λ s new ts rest xs c d h. record { trees = xs; is = subst (λ f. Derives parsed f s ts xs new rest) q d }; begun = λ s ts rest c d. subst (λ f. Begins parsed f s ts rest) q d }
@@ -45,6 +46,8 @@ each r.Primary = primary
 each r.Enum = enumeration
 each r.Declaration = declaration
 each r.Block = block_items
+each r.Cast = cast_expression
+each r.Unary = unary_expression
 each n = unchanged n refl
 
 at_start : (b : Bool) → b ≡ true → start.brackets ≡ []
@@ -127,6 +130,8 @@ loose r.Primary = loosened r.Primary refl
 loose r.Enum = record { derived = enum_back; begun = enum_front }
 loose r.Declaration = loosened r.Declaration refl
 loose r.Block = loosened r.Block refl
+loose r.Cast = loosened r.Cast refl
+loose r.Unary = loosened r.Unary refl
 loose n = same n refl
 
 back : {f : Form} {s new : Scopes} {ts rest : List Terminal} {xs : List Tree} → Derives parsed f s ts xs new rest → Derives opened f s ts xs new rest

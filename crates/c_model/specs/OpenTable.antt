@@ -23,6 +23,8 @@ open_table r.Block = grammar r.Block
 open_table r.Params = grammar r.Params
 open_table r.Adirect = grammar r.Adirect
 open_table r.Braces = grammar r.Braces
+open_table r.Cast = grammar r.Cast
+open_table r.Unary = grammar r.Unary
 open_table r.Primary = grammar r.Primary
 open_table other = table other
 
