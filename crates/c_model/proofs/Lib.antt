@@ -42,6 +42,7 @@ pub mod RegainDeclaration
 pub mod RegainBlock
 pub mod BalancedForms
 pub mod RegainCast
+pub mod ScannedDeclarators
 pub mod Loosen
 pub mod RegainUnit
 pub mod PpNumberLaws

@@ -64,12 +64,12 @@ pub record IsSame (s new : Scopes) : Type 0 where
 joined : (s mid new : Scopes) → IsSame s mid → IsSame mid new → IsSame s new
 joined s mid new a b = record { entries = b.entries ∙ a.entries; reading = b.reading ∙ a.reading; frames = b.frames ∙ a.frames }
 
-apart_others : apart tables others brackets ≡ true
+pub apart_others : apart tables others brackets ≡ true
 unfolding apart mem
 apart_others = refl
 
 -- the tokens inside an attribute
-abbrev balanced : Form
+abbrev pub balanced : Form
 balanced = word others act.Keep or word (k.OpenParenthesis ∷ k.OpenBracket ∷ k.OpenBrace ∷ []) act.OpenBalanced or word (k.Closing ∷ []) act.CloseBalanced
 
 pub record IsOver (n : ℕ) (s new : Scopes) (ts rest : List Terminal) : Type 0 where
@@ -103,21 +103,21 @@ pub record IsPassed (s new : Scopes) (ts rest : List Terminal) : Type 0 where
   pub scanned : past_attributes 0 ts ≡ past_attributes 0 rest
   pub state : new ≡ s
 
-is_bracket : (s : Scopes) (t : Terminal) → mem (kind s t) (68 ∷ []) ≡ true → (t.kind == 68) ≡ true
+pub is_bracket : (s : Scopes) (t : Terminal) → mem (kind s t) (68 ∷ []) ≡ true → (t.kind == 68) ≡ true
 unfolding mem
 is_bracket s t h = is_it 68 (refl, refl, refl, refl, refl) s t h
 
-is_closer : (s : Scopes) (t : Terminal) → mem (kind s t) (69 ∷ []) ≡ true → (t.kind == 69) ≡ true
+pub is_closer : (s : Scopes) (t : Terminal) → mem (kind s t) (69 ∷ []) ≡ true → (t.kind == 69) ≡ true
 unfolding mem
 is_closer s t h = is_it 69 (refl, refl, refl, refl, refl) s t h
 
-opens_as : (t : Terminal) → (t.kind == 68) ≡ true → is_opening t.kind ≡ true
+pub opens_as : (t : Terminal) → (t.kind == 68) ≡ true → is_opening t.kind ≡ true
 opens_as t e = let q : t.kind ≡ 68 = eqb-true t.kind 68 e in rw q refl
 
-closes_as : (t : Terminal) → (t.kind == 69) ≡ true → is_closing t.kind ≡ true
+pub closes_as : (t : Terminal) → (t.kind == 69) ≡ true → is_closing t.kind ≡ true
 closes_as t e = let q : t.kind ≡ 69 = eqb-true t.kind 69 e in rw q refl
 
-clear_there : (s : Scopes) (t : Terminal) → mem (kind s t) (69 ∷ []) ≡ true → s.brackets ≡ []
+pub clear_there : (s : Scopes) (t : Terminal) → mem (kind s t) (69 ∷ []) ≡ true → s.brackets ≡ []
 unfolding mem within
 clear_there s t h = at_closing s t (within_mem tables (kind s t) (69 ∷ []) closing refl h)
 
