@@ -43,6 +43,8 @@ pub mod RegainBlock
 pub mod BalancedForms
 pub mod RegainCast
 pub mod ScannedDeclarators
+pub mod RegainDeclarator
+pub mod RegainParameter
 pub mod Loosen
 pub mod RegainUnit
 pub mod PpNumberLaws

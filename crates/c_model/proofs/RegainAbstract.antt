@@ -42,17 +42,17 @@ is_star : (s : Scopes) (t : Terminal) → mem (kind s t) (74 ∷ []) ≡ true �
 unfolding mem
 is_star s t h = is_it 74 (refl, refl, refl, refl, refl) s t h
 
-bracket_shown : (s : Scopes) (t : Terminal) → (t.kind == 68) ≡ true → mem (kind s t) (68 ∷ []) ≡ true
+pub bracket_shown : (s : Scopes) (t : Terminal) → (t.kind == 68) ≡ true → mem (kind s t) (68 ∷ []) ≡ true
 unfolding mem
 bracket_shown s t h = shown 68 refl refl refl s t h
 
 -- an abstract declarator comes next: one of its first tokens, and no attribute
-abbrev Opens : List Terminal → Type 0
+abbrev pub Opens : List Terminal → Type 0
 Opens [] = ⊥
 Opens (u ∷ []) = opens_abstract u.kind true ≡ true
 Opens (u ∷ v ∷ ts) = opens_abstract u.kind (not (v.kind == 68)) ≡ true
 
-abbrev Shuts : List Terminal → Type 0
+abbrev pub Shuts : List Terminal → Type 0
 Shuts [] = Unit {0}
 Shuts (u ∷ []) = opens_abstract u.kind true ≡ false
 Shuts (u ∷ v ∷ ts) = opens_abstract u.kind (not (v.kind == 68)) ≡ false
@@ -74,19 +74,19 @@ by_bracket u [] h n = let q : u.kind ≡ 68 = eqb-true u.kind 68 h in rw q refl
 by_bracket u (v ∷ ts) h n = let q : u.kind ≡ 68 = eqb-true u.kind 68 h in rw (q, n) refl
 
 -- in the brackets of an array no `[` comes first
-abbrev array : Form
+abbrev pub array : Form
 array = maybe (rule r.Cond) then word (k.CloseBracket ∷ []) act.CloseArray then loop test.AttributeAhead (rule r.Attr)
 
-no_bracket : (s : Scopes) (ts : List Terminal) → mem (ahead tables parsed s ts) (first tables array) ≡ true → sees 68 ts ≡ false
+pub no_bracket : (s : Scopes) (ts : List Terminal) → mem (ahead tables parsed s ts) (first tables array) ≡ true → sees 68 ts ≡ false
 unfolding first nullable ahead firsts mem
 no_bracket s [] h = refl
 no_bracket s (t ∷ ts) h = absent (first tables array) 68 refl refl refl refl s t h
 
-array_moves : nullable tables array ≡ false
+pub array_moves : nullable tables array ≡ false
 unfolding nullable
 array_moves = refl
 
-in_array : {s new : Scopes} {ts rest : List Terminal} {xs : List Tree} → Derives parsed array s ts xs new rest → sees 68 ts ≡ false
+pub in_array : {s new : Scopes} {ts rest : List Terminal} {xs : List Tree} → Derives parsed array s ts xs new rest → sees 68 ts ≡ false
 in_array {s = s} d = elim (step tables parsed quiet checked d) [
   | inl m ↦ no_bracket s _ m.begun
   | inr m ↦ absurd (clash _ m.hollow array_moves)
@@ -100,7 +100,7 @@ abstract_opens {s = s} (Derives.a_rule (Derives.right (Derives.a_rule (Derives.b
 abstract_opens {s = s} (Derives.a_rule (Derives.right (Derives.a_rule (Derives.both (Derives.other b (Derives.a_rule (Derives.right (Derives.both (Derives.a_word {t = t} e) d p)))) m q)))) = by_parenthesis t _ (is_parenthesis s t e)
 
 -- parameters, or none
-abbrev listed : Form
+abbrev pub listed : Form
 listed = maybe (rule r.Params) then word (k.CloseParenthesis ∷ []) act.CloseParameters then loop test.AttributeAhead (rule r.Attr)
 
 shut_by : (u : Terminal) (ts : List Terminal) → (u.kind == 74) ≡ false → (u.kind == 66) ≡ false → (u.kind == 68) ≡ false → Shuts (u ∷ ts)
@@ -119,7 +119,7 @@ at_specifiers s (u ∷ ts) h = shut_by u ts (absent (firsts r.ParamSpecs) 74 ref
 two_brackets : (s s' : Scopes) (u v : Terminal) (ts : List Terminal) → mem (kind s u) (68 ∷ []) ≡ true → mem (kind s' v) (68 ∷ []) ≡ true → Shuts (u ∷ v ∷ ts)
 two_brackets s s' u v ts e e' = let q : u.kind ≡ 68 = eqb-true u.kind 68 (is_bracket s u e) in let p : v.kind ≡ 68 = eqb-true v.kind 68 (is_bracket s' v e') in rw (q, p) refl
 
-attribute_shuts : {s new : Scopes} {ts rest : List Terminal} {xs : List Tree} → Derives parsed (rule r.Attr) s ts xs new rest → Shuts ts
+pub attribute_shuts : {s new : Scopes} {ts rest : List Terminal} {xs : List Tree} → Derives parsed (rule r.Attr) s ts xs new rest → Shuts ts
 unfolding table
 attribute_shuts {s = s} (Derives.a_rule (Derives.both (Derives.a_word {t = u} e) (Derives.both (Derives.a_word {t = v} {ts = ws} e') d p) q)) = two_brackets s (after act.Keep s u) u v ws e e'
 
@@ -147,23 +147,23 @@ test_false t [] h = refl
 test_false t (u ∷ []) h = rw h (and_false (t.kind == 66))
 test_false t (u ∷ v ∷ ts) h = rw h (and_false (t.kind == 66))
 
-closed : (t : Terminal) (us : List Terminal) → (t.kind == 66) ≡ false → sees_abstract (t ∷ us) ≡ false
+pub closed : (t : Terminal) (us : List Terminal) → (t.kind == 66) ≡ false → sees_abstract (t ∷ us) ≡ false
 closed t [] h = refl
 closed t (u ∷ []) h = rw h refl
 closed t (u ∷ v ∷ ts) h = rw h refl
 
-by_array : (s : Scopes) (t : Terminal) (us : List Terminal) → mem (kind s t) (68 ∷ []) ≡ true → sees_abstract (t ∷ us) ≡ false
+pub by_array : (s : Scopes) (t : Terminal) (us : List Terminal) → mem (kind s t) (68 ∷ []) ≡ true → sees_abstract (t ∷ us) ≡ false
 unfolding mem
 by_array s t us e = closed t us (absent (68 ∷ []) 66 refl refl refl refl s t e)
 
 -- the choice, and the two between which it is
-abbrev inner : Form
+abbrev pub inner : Form
 inner = word (k.OpenParenthesis ∷ []) act.OpenDeclarator then rule r.Abstract then word (k.CloseParenthesis ∷ []) act.CloseDeclarator
 
-abbrev choice : Form
+abbrev pub choice : Form
 choice = when test.AbstractAhead inner (rule r.Suffix)
 
-choice_derived : {s new : Scopes} {ts rest : List Terminal} {xs : List Tree} → Derives parsed (inner or rule r.Suffix) s ts xs new rest → Derives parsed choice s ts xs new rest
+pub choice_derived : {s new : Scopes} {ts rest : List Terminal} {xs : List Tree} → Derives parsed (inner or rule r.Suffix) s ts xs new rest → Derives parsed choice s ts xs new rest
 unfolding table
 choice_derived {s = s} (Derives.left (Derives.both (Derives.a_word {t = t} {ts = us} e) (Derives.both d c p) q)) =
     Derives.chosen (test_true t us (is_parenthesis s t e) (abstract_opens d)) (Derives.both (Derives.a_word e) (Derives.both d c p) q)
@@ -188,7 +188,7 @@ suffix_begun (Begins.in_rule (Begins.in_right (Begins.in_first Begins.yet))) = i
 suffix_begun {s = s} (Begins.in_rule (Begins.in_right (Begins.in_first (Begins.in_word {t = t} e)))) = inl (by_parenthesis t _ (is_parenthesis s t e))
 suffix_begun {s = s} (Begins.in_rule (Begins.in_right (Begins.in_then (Derives.a_word {t = t} e) d))) = inl (by_parenthesis t _ (is_parenthesis s t e))
 
-abstract_begun : {s : Scopes} {ts rest : List Terminal} → Begins parsed (rule r.Abstract) s ts rest → Opens ts ⊎ IsLittle ts rest
+pub abstract_begun : {s : Scopes} {ts rest : List Terminal} → Begins parsed (rule r.Abstract) s ts rest → Opens ts ⊎ IsLittle ts rest
 unfolding table
 abstract_begun Begins.yet = inr IsLittle.unread
 abstract_begun (Begins.in_rule Begins.yet) = inr IsLittle.unread
@@ -208,7 +208,7 @@ abstract_begun {s = s} (Begins.in_rule (Begins.in_right (Begins.in_rule (Begins.
 abstract_begun {s = s} (Begins.in_rule (Begins.in_right (Begins.in_rule (Begins.in_then (Derives.other b (Derives.a_rule (Derives.left (Derives.both (Derives.a_word {t = t} e) d p)))) c)))) = inl (by_bracket t _ (is_bracket s t e) (in_array d))
 abstract_begun {s = s} (Begins.in_rule (Begins.in_right (Begins.in_rule (Begins.in_then (Derives.other b (Derives.a_rule (Derives.right (Derives.both (Derives.a_word {t = t} e) d p)))) c)))) = inl (by_parenthesis t _ (is_parenthesis s t e))
 
-attribute_begun : {s : Scopes} {ts rest : List Terminal} → Begins parsed (rule r.Attr) s ts rest → Shuts ts ⊎ IsLittle ts rest
+pub attribute_begun : {s : Scopes} {ts rest : List Terminal} → Begins parsed (rule r.Attr) s ts rest → Shuts ts ⊎ IsLittle ts rest
 unfolding table
 attribute_begun Begins.yet = inr IsLittle.unread
 attribute_begun (Begins.in_rule Begins.yet) = inr IsLittle.unread
@@ -219,7 +219,7 @@ attribute_begun {s = s} (Begins.in_rule (Begins.in_then (Derives.a_word {t = t} 
 attribute_begun {s = s} (Begins.in_rule (Begins.in_then (Derives.a_word {t = t} e) (Begins.in_first (Begins.in_word {t = u} {ts = ws} e')))) = inl (two_brackets s (after act.Keep s t) t u ws e e')
 attribute_begun {s = s} (Begins.in_rule (Begins.in_then (Derives.a_word {t = t} e) (Begins.in_then (Derives.a_word {t = u} {ts = ws} e') d))) = inl (two_brackets s (after act.Keep s t) t u ws e e')
 
-parameter_begun : {s : Scopes} {ts rest : List Terminal} → Begins parsed (rule r.Param) s ts rest → Shuts ts ⊎ IsLittle ts rest
+pub parameter_begun : {s : Scopes} {ts rest : List Terminal} → Begins parsed (rule r.Param) s ts rest → Shuts ts ⊎ IsLittle ts rest
 unfolding table first nullable hollow
 parameter_begun Begins.yet = inr IsLittle.unread
 parameter_begun (Begins.in_rule Begins.yet) = inr IsLittle.unread
@@ -235,7 +235,7 @@ parameter_begun {s = s} {ts = ts} (Begins.in_rule (Begins.in_then (Derives.a_rul
 ]
 parameter_begun {s = s} {ts = ts} (Begins.in_rule (Begins.in_then (Derives.a_rule Derives.stop) (Begins.in_then d e))) = inl (at_specifiers s ts (begins_with refl d))
 
-listed_begun : {s : Scopes} {ts rest : List Terminal} → Begins parsed listed s ts rest → Shuts ts ⊎ IsLittle ts rest
+pub listed_begun : {s : Scopes} {ts rest : List Terminal} → Begins parsed listed s ts rest → Shuts ts ⊎ IsLittle ts rest
 unfolding table
 listed_begun Begins.yet = inr IsLittle.unread
 listed_begun (Begins.in_first Begins.yet) = inr IsLittle.unread
@@ -250,12 +250,12 @@ listed_begun {s = s} (Begins.in_then Derives.skip (Begins.in_then (Derives.a_wor
 listed_begun (Begins.in_then (Derives.take (Derives.a_rule (Derives.both d m p))) e) = inl (parameter_shuts d)
 
 -- where only the parenthesis is read, both are begun by it
-only_parenthesis : {s : Scopes} {t : Terminal} {us : List Terminal} (b : Bool) → sees_abstract (t ∷ us) ≡ b → mem (kind s t) (66 ∷ []) ≡ true → Begins parsed choice s (t ∷ us) us
+pub only_parenthesis : {s : Scopes} {t : Terminal} {us : List Terminal} (b : Bool) → sees_abstract (t ∷ us) ≡ b → mem (kind s t) (66 ∷ []) ≡ true → Begins parsed choice s (t ∷ us) us
 unfolding table
 only_parenthesis true b e = Begins.in_chosen b (Begins.in_first (Begins.in_word e))
 only_parenthesis false b e = Begins.in_other b (Begins.in_rule (Begins.in_right (Begins.in_first (Begins.in_word e))))
 
-no_parenthesis : (u : Terminal) → (u.kind == 68) ≡ true → (u.kind == 66) ≡ false
+pub no_parenthesis : (u : Terminal) → (u.kind == 68) ≡ true → (u.kind == 66) ≡ false
 no_parenthesis u h = let q : u.kind ≡ 68 = eqb-true u.kind 68 h in rw q refl
 
 -- likewise where `[` is read behind it
@@ -266,11 +266,11 @@ and_bracket {s = s} {t = t} {u = u} {us = us} true b e h =
 and_bracket {s = s} {t = t} {u = u} false b e h =
     Begins.in_other b (Begins.in_rule (Begins.in_right (Begins.in_then (Derives.a_word e) (Begins.in_first (Begins.in_maybe (Begins.in_rule (Begins.in_first (Begins.in_rule (Begins.in_first (Begins.in_rule (Begins.in_turn (Begins.in_rule (Begins.in_first (Begins.in_word (bracket_shown (after act.OpenParameters s t) u h)))))))))))))))
 
-little : {s : Scopes} {t : Terminal} {us rest : List Terminal} → mem (kind s t) (66 ∷ []) ≡ true → IsLittle us rest → Begins parsed choice s (t ∷ us) rest
+pub little : {s : Scopes} {t : Terminal} {us rest : List Terminal} → mem (kind s t) (66 ∷ []) ≡ true → IsLittle us rest → Begins parsed choice s (t ∷ us) rest
 little {t = t} {us = us} e IsLittle.unread = only_parenthesis (sees_abstract (t ∷ us)) refl e
 little {t = t} {us = us} e (IsLittle.bracket h) = and_bracket (sees_abstract (t ∷ us)) refl e h
 
-choice_begun : {s : Scopes} {ts rest : List Terminal} → Begins parsed (inner or rule r.Suffix) s ts rest → Begins parsed choice s ts rest
+pub choice_begun : {s : Scopes} {ts rest : List Terminal} → Begins parsed (inner or rule r.Suffix) s ts rest → Begins parsed choice s ts rest
 unfolding table
 choice_begun Begins.yet = Begins.yet
 choice_begun (Begins.in_left Begins.yet) = Begins.yet

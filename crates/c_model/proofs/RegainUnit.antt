@@ -32,6 +32,7 @@ use Rattle.c_model.proofs.RegainAbstract.{abstract_declarator}
 use Rattle.c_model.proofs.RegainCommas.{braces, enumeration}
 use Rattle.c_model.proofs.RegainDeclaration.{declaration}
 use Rattle.c_model.proofs.RegainBlock.{block_items}
+use Rattle.c_model.proofs.RegainParameter.{parameter}
 use Rattle.c_model.proofs.RegainCast.{cast_expression, unary_expression}
 
 unchanged : (n : Rule) → open_table n ≡ table n → IsRegained n
@@ -46,6 +47,7 @@ each r.Primary = primary
 each r.Enum = enumeration
 each r.Declaration = declaration
 each r.Block = block_items
+each r.Param = parameter
 each r.Cast = cast_expression
 each r.Unary = unary_expression
 each n = unchanged n refl
@@ -130,6 +132,7 @@ loose r.Primary = loosened r.Primary refl
 loose r.Enum = record { derived = enum_back; begun = enum_front }
 loose r.Declaration = loosened r.Declaration refl
 loose r.Block = loosened r.Block refl
+loose r.Param = loosened r.Param refl
 loose r.Cast = loosened r.Cast refl
 loose r.Unary = loosened r.Unary refl
 loose n = same n refl

@@ -169,6 +169,7 @@ pub record IsAfter (before : Before) (first new : Scopes) (ts rest : List Termin
   pub at : IsAt behind first new
   pub same : names_declarator before first ts ≡ names_declarator behind first rest
   pub pointed : is_behind behind ≡ true
+  pub calm : (is_star before && sees_attribute ts) ≡ false → (is_star behind && sees_attribute rest) ≡ false
 
 qualifies : (s : Scopes) (t : Terminal) → mem (kind s t) (k.Const ∷ k.Restrict ∷ k.Owner ∷ k.View ∷ k.Opt ∷ []) ≡ true → is_qualifier t.kind ≡ true
 unfolding mem firsts
@@ -190,8 +191,8 @@ behind_declares BehindStar h = refl
 behind_declares BehindQualifier h = refl
 
 pub over_qualifiers : (first : Scopes) (before : Before) {s new : Scopes} {ts rest : List Terminal} {xs : List Tree} → is_behind before ≡ true → IsAt before first s → Derives parsed (many (rule r.Qual)) s ts xs new rest → IsAfter before first new ts rest
-unfolding table is_inside is_behind
-over_qualifiers first before b a Derives.stop = record { behind = before; at = a; same = refl; pointed = b }
+unfolding table is_inside is_behind is_star
+over_qualifiers first before b a Derives.stop = record { behind = before; at = a; same = refl; pointed = b; calm = λ h. h }
 over_qualifiers first before {s = s} b a (Derives.turn (Derives.a_rule (Derives.a_word {t = t} {ts = us} e)) d _) =
     let q = over_qualifiers first BehindQualifier refl (record { outside = refl; typed = a.typed ∙ behind_declares before b; entries = a.entries; parameter = a.parameter; clear = a.clear }) d in
-    record { behind = q.behind; at = q.at; same = at_qualifier before first t us b (no_star s t e) (no_open s t e) (qualifies s t e) ∙ q.same; pointed = q.pointed }
+    record { behind = q.behind; at = q.at; same = at_qualifier before first t us b (no_star s t e) (no_open s t e) (qualifies s t e) ∙ q.same; pointed = q.pointed; calm = λ h. q.calm refl }

@@ -20,6 +20,7 @@ unfoldable pub open_table : Rule → Form
 open_table r.Enum = token k.Enum then rule r.Attrs then when test.EnumeratorsAhead enumerators (word (k.Name ∷ k.TypedefName ∷ []) act.TypeSpecifier then maybe (token k.Colon then rule r.Squals))
 open_table r.Declaration = grammar r.Declaration
 open_table r.Block = grammar r.Block
+open_table r.Param = grammar r.Param
 open_table r.Params = grammar r.Params
 open_table r.Adirect = grammar r.Adirect
 open_table r.Braces = grammar r.Braces
