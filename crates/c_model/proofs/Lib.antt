@@ -45,6 +45,7 @@ pub mod RegainCast
 pub mod ScannedDeclarators
 pub mod RegainDeclarator
 pub mod RegainParameter
+pub mod KeptScopes
 pub mod Loosen
 pub mod RegainUnit
 pub mod PpNumberLaws
