@@ -59,7 +59,7 @@ even (many f) n = even f n && level f n == n
 even (when p f g) n = even f n && (even g n && level g n == level f n)
 even (loop p f) n = even f n && level f n == n
 
-evens : (n : Rule) → even (table n) 0 ≡ true
+pub evens : (n : Rule) → even (table n) 0 ≡ true
 unfolding even level fits is_some pred holds within apart mem table
 evens r.Unit = refl
 evens r.External = refl
@@ -121,7 +121,7 @@ evens r.Typeof = refl
 evens r.If = refl
 evens r.For = refl
 
-levels : (n : Rule) → level (table n) 0 ≡ 0
+pub levels : (n : Rule) → level (table n) 0 ≡ 0
 unfolding level pred holds within mem table
 levels r.Unit = refl
 levels r.External = refl

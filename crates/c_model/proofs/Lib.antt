@@ -46,6 +46,8 @@ pub mod ScannedDeclarators
 pub mod RegainDeclarator
 pub mod RegainParameter
 pub mod KeptScopes
+pub mod ScannedGroups
+pub mod ScannedSpecifiers
 pub mod Loosen
 pub mod RegainUnit
 pub mod PpNumberLaws
