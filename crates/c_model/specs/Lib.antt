@@ -114,7 +114,7 @@ pub mod ParserTests
 pub mod Untested
 pub mod Preferences
 pub mod DepthPlace
-pub mod OpenPrimary
+pub mod OpenTable
 pub mod TerminalsOf
 pub mod SyntaxValues
 pub mod SyntaxExprActions
