@@ -80,12 +80,7 @@ pub mod ExampleReleases
 pub mod ExampleFaults
 pub mod ExampleTexts
 pub mod ExampleMemory
-pub mod FirstTokens
-pub mod FirstUnit
-pub mod FirstRow
-pub mod Verdict
-pub mod Words
-pub mod Answer
+pub mod ByteClasses
 pub mod FlowGraph
 pub mod PossibleState
 pub mod Findings
@@ -167,3 +162,11 @@ pub mod Declaring
 pub mod NotedUses
 pub mod CoreNodes
 pub mod ProgramNodes89
+pub mod Words
+pub mod FirstUnit
+pub mod FirstRow
+pub mod Verdict
+pub mod ExpandedText
+pub mod RuleTexts
+pub mod ReportLines
+pub mod Answer

@@ -2,7 +2,7 @@
 -- (6.4.3).
 use Rattle.std.specs.Prelude.{ℕ, Bool, ◌&&◌, not, List, ◌++◌}
 use Rattle.std.specs.List.{list_all}
-use Rattle.c_model.specs.FirstTokens.{is_nondigit, is_word_byte, begins_with}
+use Rattle.c_model.specs.ByteClasses.{is_nondigit, is_word_byte, begins_with}
 use Rattle.c_model.specs.Vocabulary.{grammar_words, left_out_words, stands_in}
 
 abbrev pub source_words : List (List ℕ)
