@@ -115,13 +115,13 @@ at_defined : (macros : List (List ℕ × Macro)) (t : PpToken) (ts : List PpToke
     answered_from macros 0 (t ∷ ts) ≡ answered macros t (operand ts) (λ n. answered_from macros n ts)
 at_defined macros t ts d =
     ap (λ b. cond b (answered macros t (operand ts) (λ n. answered_from macros n ts))
-      (cond (is_left_out t) (Err LeftOut) (before_line t (answered_from macros 0 ts)))) d
+    (cond (is_left_out t) (Err LeftOut) (before_line t (answered_from macros 0 ts)))) d
 
 at_other : (macros : List (List ℕ × Macro)) (t : PpToken) (ts : List PpToken) → spells DEFINED t ≡ false →
     answered_from macros 0 (t ∷ ts) ≡ cond (is_left_out t) (Err LeftOut) (before_line t (answered_from macros 0 ts))
 at_other macros t ts d =
     ap (λ b. cond b (answered macros t (operand ts) (λ n. answered_from macros n ts))
-      (cond (is_left_out t) (Err LeftOut) (before_line t (answered_from macros 0 ts)))) d
+    (cond (is_left_out t) (Err LeftOut) (before_line t (answered_from macros 0 ts)))) d
 
 pub misses : (macros : List (List ℕ × Macro)) (line : List PpToken) (at : ℕ) (t : PpToken) → slice_get line at ≡ Some t →
     spells DEFINED t ≡ true → operand (drop (at + 1) line) ≡ None → answered_at macros line at ≡ Err Malformed
@@ -144,7 +144,7 @@ pub keeps : (macros : List (List ℕ × Macro)) (line : List PpToken) (at : ℕ)
 keeps macros line at t out h d l =
     front_before out t (answered_at macros line (at + 1))
     ∙ ap (with_front out) (sym (here macros line at t h ∙ at_other macros t (drop (at + 1) line) d
-      ∙ ap (λ b. cond b (Err LeftOut) (before_line t (answered_from macros 0 (drop (at + 1) line)))) l))
+    ∙ ap (λ b. cond b (Err LeftOut) (before_line t (answered_from macros 0 (drop (at + 1) line)))) l))
 
 pub tells : (macros : List (List ℕ × Macro)) (line : List PpToken) (at : ℕ) (t : PpToken) (a : Asked) (out : List PpToken) → slice_get line at ≡ Some t →
     spells DEFINED t ≡ true → operand (drop (at + 1) line) ≡ Some a →
@@ -152,15 +152,15 @@ pub tells : (macros : List (List ℕ × Macro)) (line : List PpToken) (at : ℕ)
 tells macros line at t a out h d o =
     let u : PpToken = told t (defines a.name macros) in
     let e : answered_at macros line at ≡ before_line u (answered_at macros line (at + 1 + a.tokens)) =
-        here macros line at t h ∙ at_defined macros t (drop (at + 1) line) d
-        ∙ ap (λ x. answered macros t x (λ n. answered_from macros n (drop (at + 1) line))) o
-        ∙ ap (before_line u) (passed macros a.tokens (drop (at + 1) line) ∙ ap (answered_from macros 0) (drop-drop a.tokens (at + 1) line)) in
+    here macros line at t h ∙ at_defined macros t (drop (at + 1) line) d
+    ∙ ap (λ x. answered macros t x (λ n. answered_from macros n (drop (at + 1) line))) o
+    ∙ ap (before_line u) (passed macros a.tokens (drop (at + 1) line) ∙ ap (answered_from macros 0) (drop-drop a.tokens (at + 1) line)) in
     front_before out u (answered_at macros line (at + 1 + a.tokens)) ∙ ap (with_front out) (sym e)
 
 pub passes : (macros : List (List ℕ × Macro)) (line : List PpToken) (at : ℕ) (out : List PpToken) → slice_get line at ≡ None → Follows macros line at (at + 1) out out
 passes macros line at out h =
     ap (λ (z : List PpToken). with_front out (answered_from macros 0 z))
-      (sym (drop-drop 1 at line) ∙ ap (drop 1) (drop_none line at h) ∙ sym (drop_none line at h))
+    (sym (drop-drop 1 at line) ∙ ap (drop 1) (drop_none line at h) ∙ sym (drop_none line at h))
 
 pub no_front : (r : Result (List PpToken) ConditionRule) → with_front [] r ≡ r
 no_front (Ok ts) = refl

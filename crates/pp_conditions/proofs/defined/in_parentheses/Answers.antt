@@ -14,7 +14,7 @@ returns-in_default-get-clause-asked c =
 pub returns-then-spells-clause-asked : goal.returns-then-spells-clause-asked
 returns-then-spells-clause-asked c =
     let h = inside c.args.line.now c.args.at c.in-Some.name.now c.in-Some-get.close.now (sym c.in-Some.ensures) (sym c.in-Some-get.ensures)
-      (both_true _ _ (sym c.if-is_name.ensures) (sym c.if-spells.ensures)) in
+    (both_true _ _ (sym c.if-is_name.ensures) (sym c.if-spells.ensures)) in
     cc
 
 pub returns-else-is_name-clause-asked : goal.returns-else-is_name-clause-asked
@@ -22,8 +22,8 @@ returns-else-is_name-clause-asked c =
     elim c.else-is_name.branch [
       | else-is_name-via-then-is_name+else-spells w ↦
           not_inside c.args.line.now c.args.at c.in-Some.name.now c.in-Some-get.close.now (sym c.in-Some.ensures) (sym c.in-Some-get.ensures)
-            (second_false _ _ (sym w.if-spells.ensures))
+          (second_false _ _ (sym w.if-spells.ensures))
       | else-is_name-via-else-is_name w ↦
           not_inside c.args.line.now c.args.at c.in-Some.name.now c.in-Some-get.close.now (sym c.in-Some.ensures) (sym c.in-Some-get.ensures)
-            (first_false _ _ (sym w.if-is_name.ensures))
+          (first_false _ _ (sym w.if-is_name.ensures))
     ]

@@ -15,6 +15,8 @@ returns-then-is_left_out-clause-err c =
 
 pub returns-clause-ok : goal.returns-clause-ok
 returns-clause-ok c =
-    let e = c.in_ok-push.ensures.ok ∙ ap (λ (z : PpToken). c.args.out.now ++ z ∷ []) c.in_ok-copy.ensures in
-    (omega arith, subst (λ (z : List PpToken). Follows c.args.table.now.entries c.args.line.now c.args.at (c.args.at + 1) c.args.out.now z) (sym e)
-      (keeps c.args.table.now.entries c.args.line.now c.args.at c.in-Some.tok.now c.args.out.now (sym c.in-Some.ensures) (sym c.if-spells.ensures) (sym c.if-is_left_out.ensures)))
+    let e = c.in_ok-push.ensures.ok ∙ ap (λ (z : PpToken). c.args.out.now ++ z ∷ []) c.in_ok-copy.ensures in (
+      omega arith,
+      subst (λ (z : List PpToken). Follows c.args.table.now.entries c.args.line.now c.args.at (c.args.at + 1) c.args.out.now z) (sym e)
+          (keeps c.args.table.now.entries c.args.line.now c.args.at c.in-Some.tok.now c.args.out.now (sym c.in-Some.ensures) (sym c.if-spells.ensures) (sym c.if-is_left_out.ensures)),
+    )
