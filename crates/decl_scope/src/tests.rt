@@ -1,5 +1,5 @@
 //! Scripts of declarations with what they answer: a row is a unit in short, a step of it a line.
-ghost use Rattle.std.specs.Prelude.{ℕ, pos, None, Some, IsTrue, IfOk};
+ghost use Rattle.std.specs.Prelude.{◌≡◌, ℕ, pos, None, Some, IsTrue, IfOk};
 ghost use Rattle.c_model.specs.Types.{form_of_type};
 ghost use Rattle.c_model.specs.Structures.{names_below};
 ghost use Rattle.c_model.specs.Declarations as d;
@@ -125,7 +125,11 @@ fn is_function(ty: &CType) -> bool
 fn kind_of(ty: &CType) -> Kind
     ensures { IsTrue (d.fits_kind result (form_of_type ty.now) None) }
 {
-    if is_function(ty) { Kind::Function } else { Kind::Object }
+    if is_function(ty) {
+        Kind::Function
+    } else {
+        Kind::Object
+    }
 }
 
 fn at(line: u32) -> Place {
@@ -328,7 +332,15 @@ fn ask(
     } else if step == "settle" {
         settle(alloc, scopes, name)?;
     } else if step == "use" {
-        note(scopes, name, if word(words, 2) == "later" { 1000 - line } else { line });
+        note(
+            scopes,
+            name,
+            if word(words, 2) == "later" {
+                1000 - line
+            } else {
+                line
+            },
+        );
     } else if step == "surrounds" {
         write_flag(scopes, name, out)?;
     } else if step == "unresolved" {
@@ -346,7 +358,11 @@ fn note(scopes: &mut Scopes, name: &str, line: u32) {
 /// Writes whether a name is one of the surroundings of a literal, and whether it is defined.
 fn write_flag(scopes: &Scopes, name: &str, out: &mut String) -> Result<(), Fail> {
     if let Some(id) = scopes.look(false, name.as_bytes()) {
-        out.push_str(if scopes.is_surrounding(id) { " out" } else { " in" })?;
+        out.push_str(if scopes.is_surrounding(id) {
+            " out"
+        } else {
+            " in"
+        })?;
         out.push_str(if scopes.is_defined(id) { "+" } else { "" })?;
     }
     Ok(())
@@ -420,10 +436,7 @@ fn scripts_answer(rt: HostRuntime) -> Result<(), Fail> {
         ("tag enum1 e {}|tag enum1 e {}", " 0 C06:2"),
         ("struct s|tag enum1 s", " 0 C06:2"),
         ("public exit() exit {}", " C07:1"),
-        (
-            "static int() f|use f|use f later|unresolved",
-            " 0 C08:2",
-        ),
+        ("static int() f|use f|use f later|unresolved", " 0 C08:2"),
         // the smallest number first
         ("public int cake_x|static long cake_x", " C01:1 C01:2"),
         ("static int x|public long x", " 0 C03:2"),
@@ -454,7 +467,10 @@ fn scripts_answer(rt: HostRuntime) -> Result<(), Fail> {
             "extern int[] a|length a|extern int[3] a|length a|extern int[] a|length a|extern int[4] a",
             " 0 []:1 0 [3]:3 0 [3]:5 C03:7",
         ),
-        ("public int[] a|settle a|extern int[4] a|extern int[3] a", " 0 C03:3 0"),
+        (
+            "public int[] a|settle a|extern int[4] a|extern int[3] a",
+            " 0 C03:3 0",
+        ),
         (
             "extern int(*())[] f|extern int(*())[3] f|extern int(*())[] f|extern int(*())[4] f",
             " 0 0 0 C03:4",
@@ -478,8 +494,14 @@ fn scripts_answer(rt: HostRuntime) -> Result<(), Fail> {
             " 0 - 0 in",
         ),
         // uses
-        ("static int() f|use f|static int() f {}|unresolved", " 0 0 -"),
-        ("public int() f|use f|static int x|use x|unresolved", " 0 1 -"),
+        (
+            "static int() f|use f|static int() f {}|unresolved",
+            " 0 0 -",
+        ),
+        (
+            "public int() f|use f|static int x|use x|unresolved",
+            " 0 1 -",
+        ),
         (
             "static int() f|static int() g|use g later|use f later|unresolved|surrounds f",
             " 0 1 C08:996 in",
@@ -499,12 +521,24 @@ fn a_hundred_thousand_names(rt: HostRuntime) -> Result<(), Fail> {
     let mut out = String::new(alloc);
     for k in 0..100_000u32 {
         let name = format!(in alloc; "n{k}")?;
-        take(alloc, &mut scopes, &["public", "int", name.as_str()], k, &mut out)?;
+        take(
+            alloc,
+            &mut scopes,
+            &["public", "int", name.as_str()],
+            k,
+            &mut out,
+        )?;
     }
     scopes.enter()?;
     for k in 0..100_000u32 {
         let name = format!(in alloc; "n{k}")?;
-        take(alloc, &mut scopes, &["extern", "int", name.as_str()], k, &mut out)?;
+        take(
+            alloc,
+            &mut scopes,
+            &["extern", "int", name.as_str()],
+            k,
+            &mut out,
+        )?;
         assert_eq!(rt; scopes.look(false, name.as_bytes()), Some(DeclId(k)));
     }
     scopes.leave();
