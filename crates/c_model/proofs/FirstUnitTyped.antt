@@ -1,12 +1,12 @@
 -- The core of a first unit is typed.
-use Rattle.std.proofs.Common.{◌≡◌, ℕ, ◌+◌, ◌≤◌, ℤ, pos, neg_ℤ, Bool, true, false, ◌&&◌, List, [], ◌∷◌, ◌++◌, codes, refl, subst, ap, sym, arith}
+use Rattle.std.proofs.Common.{◌≡◌, ℕ, ◌≤◌, pos, true, List, refl, subst, sym, arith}
 use Rattle.std.proofs.lemmas.Bool.Decides.{nat_tests}
 use Rattle.cake_base.specs.declared.places.Place.{Place}
 use Rattle.c_model.specs.declared.numbers.Basic.TheVariants.{Int}
 use Rattle.c_model.specs.declared.numbers.BinOp.{BinOp}
 use Rattle.c_model.specs.declared.numbers.BinOp.TheVariants.{Mul, Add, Sub}
 use Rattle.c_model.specs.Operations.{fits}
-use Rattle.c_model.specs.Types.{CType, Integer}
+use Rattle.c_model.specs.Types.{Integer}
 use Rattle.c_model.specs.Structures.{Structure}
 use Rattle.c_model.specs.CoreTypes.{int_type, type_of, binary_type}
 use Rattle.c_model.specs.TypedParts.{takes}

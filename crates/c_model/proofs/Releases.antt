@@ -1,6 +1,5 @@
 -- The runs that use an owner after it was freed misuse it.
 use Rattle.std.proofs.Common.{Some, refl, lit<}
-use Rattle.c_model.specs.Run.{Undefined}
 use Rattle.c_model.specs.Core as unit
 use Rattle.c_model.specs.ExampleParts.{load, mark_of}
 use Rattle.c_model.specs.ExampleReleases.{at_line, owner_at, freed_in_loop, dead_in_loop, freed_twice, released_twice}

@@ -1,6 +1,6 @@
 -- The types that the five functions of <stdlib.h> are declared with (ISO/IEC 9899:2024, 7.24.3, 7.24.4), with
 -- the qualifiers of ownership: no unit defines one of them or declares one otherwise.
-use Rattle.std.specs.Prelude.{ℕ, Bool, true, false, ◌&&◌, not, if◌then◌else◌, List, [], ◌∷◌, Option, Some, None}
+use Rattle.std.specs.Prelude.{ℕ, Bool, true, false, ◌&&◌, if◌then◌else◌, List, [], ◌∷◌, Option, Some, None}
 use Rattle.std.specs.Str.{bytes_eq}
 use Rattle.c_model.specs.declared.types.Quals.{Quals}
 use Rattle.c_model.specs.Types.{CType, typed, Void, Pointer, no_types, more_types}

@@ -1,16 +1,20 @@
--- Cores that aren't typed, each by one thing, and some that are where it may be doubted.
-use Rattle.std.specs.Prelude.{ℕ, pos, true, false, List, [], ◌∷◌, codes, Some, None}
-use Rattle.c_model.specs.declared.numbers.Basic.TheVariants.{Bool as bool, Char, Int, Long}
+-- Cores that aren't typed, each by one thing, some that are where it may be doubted, and C89 programs whose
+-- declarations don't agree.
+use Rattle.std.specs.Prelude.{ℕ, pos, true, false, List, [], ◌∷◌, codes, Option, Some, None}
+use Rattle.c_model.specs.declared.numbers.Basic.TheVariants.{Char, Int}
 use Rattle.c_model.specs.declared.numbers.BinOp.{BinOp}
-use Rattle.c_model.specs.declared.numbers.BinOp.TheVariants.{Mul, Add}
+use Rattle.c_model.specs.declared.numbers.BinOp.TheVariants.{Add, Equal}
 use Rattle.c_model.specs.declared.operators.LogicOp.TheVariants.{And}
 use Rattle.c_model.specs.declared.marks.Origin.TheVariants.{Written, Implied}
-use Rattle.c_model.specs.Types.{CType, typed, Void, Integer, Enum, Pointer, Array, Struct, Function as FunctionForm, no_types, types}
+use Rattle.c_model.specs.Types.{CType, typed, Void, Integer, Array, Struct, Function as FunctionForm, types}
 use Rattle.c_model.specs.Structures.{Member, Structure}
 use Rattle.c_model.specs.CoreTypes.{int_type, plain, pointer_to}
-use Rattle.c_model.specs.Core.{Core, Expr, Constant, Load, Address, FunctionRef, Binary, Logic, Convert, Assign, Plain, Compound, Lvalue, Field, Deref, Initials, no_initials, more_initials, Stat, Storage, Parameter, Static, Declared, Text, DeclaredObject, Function, no_stat, a_stat}
-use Rattle.c_model.specs.ExampleParts.{nowhere, no_mark, number, int_variable, variable, load, binary, assigned, call, evaluate, start, block, return, function_type, automatic, stored_as, global_int, function, unit, int_value}
+use Rattle.c_model.specs.Core.{Core, Expr, Constant, Address, Logic, Assign, Compound, Lvalue, Field, Deref, Initials, no_initials, more_initials, Stat, Parameter, Static, Declared, Text, DeclaredObject, no_stat, a_stat}
+use Rattle.c_model.specs.ExampleParts.{nowhere, no_mark, number, int_variable, variable, load, binary, assigned, call, evaluate, block, return, function_type, automatic, stored_as, function, unit}
 use Rattle.c_model.specs.ExampleList.{is_const, size_type, int_void, implied}
+use Rattle.c_model.specs.Types89 as type89
+use Rattle.c_model.specs.Program89 as text
+use Rattle.c_model.specs.FirstRow.{program_returning, int_number}
 
 -- a unit whose `main` does this with these objects
 abbrev pub doing : List DeclaredObject → List ℕ → List Stat → Core
@@ -184,3 +188,57 @@ array_in_its_initializer =
     (more_initials (1 ∷ []) 4 int_type
     (load (Deref (Address Implied (variable 1 (plain (Array int_type None))) no_mark) no_mark)) no_initials)) no_mark
     ∷ [])
+
+-- C89 programs
+
+abbrev pub outer89 : text.Storage → type89.Type89 → List ℕ → Option text.Init → text.Outer
+outer89 storage type name init = record { storage = storage; type = type; name = name; init = init }
+
+abbrev pub function89 : type89.Type89
+function89 = type89.Function type89.int_type type89.no_types false
+
+-- int main(void) { return 0; } behind these declarations
+abbrev pub declaring89 : List text.Outer → text.Program
+declaring89 outers = record (program_returning (int_number 0)) { outers = outers }
+
+abbrev pub main89 : text.Storage → text.Outer
+main89 storage = outer89 storage function89 (codes "main") None
+
+abbrev pub object89 : text.Storage → text.Outer
+object89 storage = outer89 storage type89.int_type (codes "x") (Some (text.Value (int_number 0)))
+
+-- a `main` that returns this value, behind these declarations
+abbrev pub returning89 : List text.Outer → text.Expr → text.Program
+returning89 outers e = record (program_returning e) { outers = main89 text.Plainly ∷ outers }
+
+abbrev pub extern89 : type89.Type89 → List ℕ → text.Outer
+extern89 type name = outer89 text.Extern type name None
+
+-- extern int f(void); extern int *p; extern void *v;
+abbrev pub outside89 : List text.Outer
+outside89 =
+    extern89 function89 (codes "f") ∷ extern89 (type89.Pointer false type89.int_type) (codes "p")
+    ∷ extern89 (type89.Pointer false (type89.Based false type89.Void)) (codes "v") ∷ []
+
+abbrev pub f89 : text.Expr
+f89 = text.Name (codes "f")
+
+abbrev pub p89 : text.Expr
+p89 = text.Name (codes "p")
+
+abbrev pub v89 : text.Expr
+v89 = text.Name (codes "v")
+
+-- ((1 ? v : p) == p)
+abbrev pub joined89 : text.Expr → text.Expr
+joined89 first = text.Binary Equal (text.Choice (int_number 1) first p89) p89
+
+-- static T x = e;
+abbrev pub started89 : type89.Type89 → text.Expr → text.Program
+started89 type e = declaring89 (main89 text.Plainly ∷ extern89 function89 (codes "f") ∷ outer89 text.Static type (codes "x") (Some (text.Value e)) ∷ [])
+
+abbrev pub char_pointer89 : type89.Type89
+char_pointer89 = type89.Pointer false (type89.Based false type89.Char)
+
+abbrev pub null89 : text.Expr
+null89 = text.Cast char_pointer89 (int_number 0)

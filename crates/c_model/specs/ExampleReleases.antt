@@ -1,17 +1,17 @@
 -- Units that use an owner after `free` took it, as cores, with how their runs end: in a loop, where the first
 -- thing that goes wrong is a store through the dead owner, and by two calls of `free` in a row.
-use Rattle.std.specs.Prelude.{ℕ, true, List, [], ◌∷◌, codes, Some}
+use Rattle.std.specs.Prelude.{ℕ, true, List, [], ◌∷◌, codes, Some, None}
 use Rattle.cake_base.specs.declared.places.Place.{Place}
 use Rattle.c_model.specs.declared.numbers.Basic.TheVariants.{Char}
 use Rattle.c_model.specs.declared.numbers.BinOp.TheVariants.{Less}
 use Rattle.c_model.specs.declared.operators.UnaryOp.TheVariants.{Not}
 use Rattle.c_model.specs.declared.outcomes.Cause.TheVariants.{Dead, BadRelease}
-use Rattle.c_model.specs.Types.{CType, typed, Integer, Pointer}
-use Rattle.c_model.specs.CoreTypes.{int_type, plain}
+use Rattle.c_model.specs.Types.{CType, typed, Integer, Pointer, Struct}
+use Rattle.c_model.specs.CoreTypes.{int_type, no_quals, plain}
 use Rattle.c_model.specs.Run.{Run, Took, Freed, Returned, Undefined}
-use Rattle.c_model.specs.Core.{Core, Expr, Call, FunctionRef, Load, Assign, Plain, Unary, exprs, Lvalue, Object, Deref, Stat, If, For, no_expr, an_expr, no_stat, a_stat, DeclaredObject}
-use Rattle.c_model.specs.ExampleParts.{mark_of, no_mark, no_span, number, int_variable, load, binary, increment, call, evaluate, start, block, return, function_type, automatic, function, unit, int_value}
-use Rattle.c_model.specs.ExampleList.{owner_or_null, void_owner, size_type, free_type, int_void, implied}
+use Rattle.c_model.specs.Core.{Core, Call, FunctionRef, Assign, Plain, Unary, exprs, Lvalue, Object, Deref, Stat, If, For, no_expr, an_expr, no_stat, a_stat, DeclaredObject}
+use Rattle.c_model.specs.ExampleParts.{nowhere, mark_of, no_mark, no_span, number, int_variable, load, binary, increment, call, evaluate, start, block, return, function_type, automatic, function, unit, int_value}
+use Rattle.c_model.specs.ExampleList.{node_id, owner_or_null, void_owner, size_type, free_type, int_void, implied}
 
 -- a place on one of the lines
 abbrev pub at_line : (line column order : ℕ) → Place
@@ -107,3 +107,18 @@ released_twice = record { events = []; moves = Took 1 1 ∷ Freed 1 ∷ []; endi
 
 abbrev pub nothing_to_free : Run
 nothing_to_free = record { events = []; moves = []; ending = Returned (int_value 0) }
+
+-- the same without `free`: char * _Owner _Opt p = malloc(1); return 0;
+abbrev pub never_freed : Core
+never_freed = with_main [] (block (10 ∷ []) (start_owner ∷ return (number 0) ∷ []))
+
+-- struct s * _Owner, of a structure that is completed nowhere
+abbrev pub sure_owner : CType
+sure_owner = typed (Pointer (plain (Struct node_id))) (record no_quals { has_owner = true })
+
+-- struct s * _Owner make(void); int main(void) { make(); return 0; }
+abbrev pub asks_for_owner : Core
+asks_for_owner =
+    record (unit [] (function 1 (codes "make") (function_type sure_owner []) [] no_stat
+    ∷ function 2 (codes "main") int_void [] (a_stat (block [] (evaluate (call 1 (function_type sure_owner []) []) ∷ return (number 0) ∷ [])))
+    ∷ [])) { structs = record { tag = Some (codes "s"); outer = true; place = nowhere; members = None } ∷ [] }

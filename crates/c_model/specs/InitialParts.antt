@@ -8,7 +8,7 @@ use Rattle.c_model.specs.Structures.{Member, Structure, members_of}
 use Rattle.c_model.specs.Layout.{member_offset}
 use Rattle.c_model.specs.CoreTypes.{plain, size_in}
 use Rattle.c_model.specs.SameTypes.{same_value_type}
-use Rattle.c_model.specs.MemberTypes.{member_in, members_of_form}
+use Rattle.c_model.specs.MemberTypes.{member_in}
 use Rattle.c_model.specs.Core as unit
 
 -- a part of an object: its offset in bytes, and its type

@@ -1,11 +1,11 @@
 -- The type of a structure's member, and what may be assigned to (ISO/IEC 9899:2024, 6.3.3.1, 6.5.3.4, 6.7.4.1).
-use Rattle.std.specs.Prelude.{ℕ, zero, suc, Bool, true, false, ◌&&◌, ◌||◌, not, List, Option, Some, None, slice_get}
+use Rattle.std.specs.Prelude.{ℕ, zero, suc, Bool, false, ◌&&◌, ◌||◌, not, List, Option, Some, None, slice_get}
 use Rattle.std.specs.List.{list_any}
 use Rattle.c_model.specs.declared.types.Quals.{Quals}
 use Rattle.c_model.specs.declared.types.StructId.{StructId}
 use Rattle.c_model.specs.Types.{CType, typed, Form, Array, Struct, quals_of_type, form_of_type}
 use Rattle.c_model.specs.Structures.{Member, Structure, members_of}
-use Rattle.c_model.specs.Layout.{complete_count}
+use Rattle.c_model.specs.Layout.{complete_count, members_of_form}
 use Rattle.c_model.specs.CoreTypes.{unqualified}
 use Rattle.c_model.specs.SameTypes.{same_type}
 
@@ -27,10 +27,6 @@ member_type s (typed form quals) = typed form (member_quals s quals)
 abbrev pub member_in : (rank : ℕ) → Option (List Member) → Option Member
 member_in rank None = None
 member_in rank (Some members) = slice_get members rank
-
-abbrev pub members_of_form : List Structure → Form → Option (List Member)
-members_of_form structs (Struct id) = members_of structs id
-members_of_form structs form = None
 
 abbrev pub has_type : (structure : Quals) → CType → Option Member → Bool
 has_type s type None = false

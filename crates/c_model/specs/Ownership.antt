@@ -1,10 +1,9 @@
 -- What a run does with owned blocks (this profile's own, over 6.2.4 and 7.24.3): what it leaves of them, when
 -- the outside is honest, and when an undefined run misuses a tracked place.
-use Rattle.std.specs.Prelude.{◌≡◌, ℕ, ℤ, pos, Bool, true, false, ◌&&◌, not, if◌then◌else◌, List, [], ◌∷◌, Option, Some, None, IsTrue, Contains}
+use Rattle.std.specs.Prelude.{◌≡◌, ℕ, ℤ, pos, Bool, false, ◌&&◌, not, if◌then◌else◌, List, [], ◌∷◌, Option, Some, None, IsTrue, Contains}
 use Rattle.std.specs.List.{list_all}
 use Rattle.std.specs.Ordering.{int_eq}
 use Rattle.cake_base.specs.declared.places.Place.{Place}
-use Rattle.c_model.specs.declared.marks.Mark.{Mark}
 use Rattle.c_model.specs.declared.marks.Origin.TheVariants.{Implied}
 use Rattle.c_model.specs.declared.outcomes.Cause.TheVariants as cause
 use Rattle.c_model.specs.Types.{CType, form_of_type, quals_of_type}

@@ -1,7 +1,7 @@
 -- Tracked places (this profile's own, over the objects of 6.2.4): automatic pointer objects and parameters
 -- that are owners, and those that are optional views and whose address is taken nowhere. The object of a
 -- compound literal has no name, and isn't tracked.
-use Rattle.std.specs.Prelude.{ℕ, Bool, true, false, ◌&&◌, ◌||◌, not, List, [], ◌∷◌, ◌++◌, Option, Some, None, filter}
+use Rattle.std.specs.Prelude.{ℕ, Bool, true, false, ◌&&◌, ◌||◌, not, List, [], ◌++◌, Option, Some, None, filter, is_some}
 use Rattle.c_model.specs.Types.{CType, form_of_type, quals_of_type}
 use Rattle.c_model.specs.CoreTypes.{is_pointer}
 use Rattle.c_model.specs.Core as unit
@@ -14,13 +14,9 @@ is_owner_type type = is_pointer (form_of_type type) && (quals_of_type type).has_
 abbrev pub is_optional_view_type : CType → Bool
 is_optional_view_type type = is_pointer (form_of_type type) && (quals_of_type type).has_opt && not (quals_of_type type).has_owner
 
-abbrev pub has_name : Option (List ℕ) → Bool
-has_name None = false
-has_name (Some name) = true
-
 -- a parameter, or a named object of automatic storage
 abbrev pub is_local : unit.Storage → Option (List ℕ) → Bool
-is_local unit.Automatic name = has_name name
+is_local unit.Automatic name = is_some name
 is_local unit.Parameter name = true
 is_local storage name = false
 

@@ -1,7 +1,7 @@
 -- When a core is typed (ISO/IEC 9899:2024, 6.2.2, 6.7 to 6.9): its types are possible, its expressions and
 -- statements are typed by themselves and where they stand, no two of its objects and functions have one
 -- number, and its external names are names of which no two are the same.
-use Rattle.std.specs.Prelude.{ℕ, suc, nat_eq, nat_lt, Bool, true, false, ◌&&◌, not, if◌then◌else◌, List, [], ◌∷◌, ◌++◌, length, codes, take, Option, Some, None, IsTrue}
+use Rattle.std.specs.Prelude.{ℕ, suc, nat_eq, nat_lt, Bool, true, false, ◌&&◌, not, if◌then◌else◌, List, [], ◌∷◌, ◌++◌, length, codes, take, Option, Some, None, is_some, IsTrue}
 use Rattle.std.specs.List.{list_any, list_all}
 use Rattle.std.specs.Str.{bytes_eq}
 use Rattle.c_model.specs.declared.numbers.Basic.TheVariants.{Char}
@@ -142,14 +142,10 @@ storage_fits core type (unit.Text bytes) = is_sized core.structs type && is_text
 storage_fits core type unit.Declared = true
 storage_fits core type _ = is_sized core.structs type
 
-abbrev pub is_some_name : Option (List ℕ) → Bool
-is_some_name None = false
-is_some_name (Some name) = true
-
 -- external objects have a name, and are of static storage or nowhere defined, which no other object is
 abbrev pub linkage_fits : unit.DeclaredObject → unit.Storage → Bool
-linkage_fits o (unit.Static values) = if o.is_external then is_some_name o.name else true
-linkage_fits o unit.Declared = o.is_external && is_some_name o.name
+linkage_fits o (unit.Static values) = if o.is_external then is_some o.name else true
+linkage_fits o unit.Declared = o.is_external && is_some o.name
 linkage_fits o _ = not o.is_external
 
 abbrev pub object_fits : unit.Core → unit.DeclaredObject → Bool

@@ -5,7 +5,7 @@ use Rattle.std.specs.List.{list_any}
 use Rattle.c_model.specs.declared.numbers.BinOp.{BinOp}
 use Rattle.c_model.specs.declared.numbers.BinOp.TheVariants.{Add, Sub}
 use Rattle.c_model.specs.declared.marks.Origin.{Origin}
-use Rattle.c_model.specs.declared.marks.Origin.TheVariants.{Written, Implied}
+use Rattle.c_model.specs.declared.marks.Origin.TheVariants.{Written}
 use Rattle.c_model.specs.Types.{CType, Form, Function, Types, no_types, more_types, form_of_type}
 use Rattle.c_model.specs.Structures.{Structure}
 use Rattle.c_model.specs.Compatible.{compatible}
