@@ -3,7 +3,7 @@ use Rattle.std.proofs.Common.{◌≡◌, ℕ, ◌^◌, ◌<◌, ◌≤◌, ◌==
 use Rattle.std.specs.Prelude.{codes}
 use Rattle.std.specs.Fmt.{decimal}
 use Rattle.std.proofs.lemmas.Bool.Decides.{nat_tests}
-use Rattle.c_model.specs.FirstTokens.{is_digit, is_nondigit, is_word_byte, begins_with, AllBytes}
+use Rattle.c_model.specs.ByteClasses.{is_digit, is_nondigit, is_word_byte, begins_with, AllBytes}
 use Rattle.c_model.specs.Names89.{IsName, is_among, words}
 use Rattle.c_model.specs.SpellingParts89.{blank_before, declaration_text, expr_text}
 use Rattle.c_model.specs.Signs89.{base_text, sign_text, logic_text, prefix_text, suffix_text}

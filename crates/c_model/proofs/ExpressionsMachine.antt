@@ -2,7 +2,7 @@
 use Rattle.std.proofs.Common.{ℕ, ◌==◌, List, [], ◌∷◌, ◌++◌, Bool, not, ◌&&◌, Option, Some, None, if◌then◌else◌}
 use Rattle.std.specs.Prelude.{codes}
 use Rattle.std.specs.Str.{bytes_eq}
-use Rattle.c_model.specs.FirstTokens.{is_digit, is_nondigit, is_word_byte, begins_with}
+use Rattle.c_model.specs.ByteClasses.{is_digit, is_nondigit, is_word_byte, begins_with}
 use Rattle.c_model.specs.Names89.{is_among, words}
 use Rattle.c_model.specs.Signs89.{sign_text, prefix_text}
 use Rattle.c_model.specs.declared.numbers.BinOp.{BinOp}

@@ -3,7 +3,7 @@ use Rattle.std.proofs.Common.{◌≡◌, ℕ, ◌==◌, List, [], ◌∷◌, ◌
 use Rattle.std.specs.Prelude.{codes}
 use Rattle.std.specs.Str.{bytes_eq}
 use Rattle.std.proofs.lemmas.Bool.Decides.{nat_tests}
-use Rattle.c_model.specs.FirstTokens.{is_nondigit, is_word_byte, begins_with, AllBytes}
+use Rattle.c_model.specs.ByteClasses.{is_nondigit, is_word_byte, begins_with, AllBytes}
 use Rattle.c_model.specs.Names89.{IsName, is_among, words}
 use Rattle.c_model.specs.SpellingParts89.{blank_before, star_text, pointer_text}
 use Rattle.c_model.specs.Types89.{Type89, Based, Pointer, Array, Function}

@@ -1,16 +1,25 @@
 -- The worked units, by computing the definitions.
-use Rattle.std.proofs.Common.{◌≡◌, ℕ, ℤ, pos, List, [], ◌∷◌, ◌++◌, Some, refl, ap, ◌∙◌, subst, arith, lit<, lit≤}
+use Rattle.std.proofs.Common.{◌≡◌, ℕ, ℤ, pos, Bool, true, false, List, [], ◌∷◌, ◌++◌, map, Some, Ok, refl, ap, ◌∙◌, subst, lit<, lit≤}
 use Rattle.std.specs.Prelude.{codes}
 use Rattle.std.specs.Fmt.{decimal}
 use Rattle.std.proofs.lemmas.Fmt.{decimal_digit}
+use Rattle.c_model.specs.declared.numbers.Basic.TheVariants.{Int}
 use Rattle.c_model.specs.declared.numbers.BinOp.TheVariants.{Mul, Add}
+use Rattle.c_model.specs.declared.tokens.CKind.TheVariants.{Word, Name, Punct}
+use Rattle.c_model.specs.declared.tokens.CTok.{CTok}
+use Rattle.c_model.specs.declared.tokens.PpKind.{PpKind}
+use Rattle.c_model.specs.declared.tokens.PpKind.TheVariants as pp_kind
 use Rattle.c_model.specs.declared.outcomes.Cause.TheVariants.{Overflow}
 use Rattle.c_model.specs.Memory.{Single, Number}
 use Rattle.c_model.specs.Run.{Returned, Undefined}
 use Rattle.c_model.specs.SourceRun.{run23}
 use Rattle.c_model.specs.TargetRun.{run89}
-use Rattle.c_model.specs.FirstTokens.{Token}
-use Rattle.c_model.specs.FirstUnit.{IsConstant, IsSum, IsProduct, IsPrimary, one_product, added, one_primary, multiplied, constant, int_constant, int_operation}
+use Rattle.c_model.specs.Operations.{fits}
+use Rattle.c_model.specs.Vocabulary.{word_number, punctuator_number, is_punctuator}
+use Rattle.c_model.specs.PpSteps.{step_at}
+use Rattle.c_model.specs.PpTokens.{PpToken, tokens_of}
+use Rattle.c_model.specs.CTokens.{converted, c_tokens_of}
+use Rattle.c_model.specs.FirstUnit.{spelled, head_words, IsConstant, IsSum, IsProduct, IsPrimary, one_product, added, one_primary, multiplied, constant, int_constant, int_operation}
 use Rattle.c_model.specs.Verdict.{IsCore, IsVerdictOn}
 use Rattle.c_model.specs.Types89.{int_type}
 use Rattle.c_model.specs.Names89.{IsName}
@@ -18,77 +27,79 @@ use Rattle.c_model.specs.Typing89.{Typed}
 use Rattle.c_model.specs.SpellingParts89.{declaration_text}
 use Rattle.c_model.specs.Spelling89.{outers_text, canonical}
 use Rattle.c_model.specs.Reading89.{Reads89}
-use Rattle.c_model.specs.FirstRow.{at, seven_text, seven_core, seven_program, seven_written, overflow_text, overflow_core}
+use Rattle.c_model.specs.FirstRow.{at, token, number, seven_text, seven_tokens, seven_core, seven_program, seven_written, overflow_tokens, overflow_core}
 use Rattle.c_model.proofs.Spelled.{program_reads}
 
-abbrev token : List ℕ → (column order : ℕ) → Token
-token text column order = record { text = text; place = at column order }
-
 -- the words before `return`
-abbrev head : List Token
-head = token (codes "int") 1 0 ∷ token (codes "main") 5 1 ∷ token (codes "(") 9 2 ∷ token (codes "void") 10 3 ∷ token (codes ")") 14 4 ∷ token (codes "{") 16 5 ∷ []
+abbrev head : List CTok
+head = token (Word 14) 1 0 ∷ token (Name (codes "main")) 5 1 ∷ token (Punct 3) 9 2 ∷ token (Word 11) 10 3 ∷ token (Punct 4) 14 4 ∷ token (Punct 7) 16 5 ∷ []
 
--- a text that doesn't begin with 0
-no_zero : (first : ℕ) (more rest : List ℕ) → (first ≡ 48 → ⊥) → first ∷ more ≡ codes "0" ++ rest → rest ≡ []
-no_zero first more rest differs e = absurd (differs (let h : first ≡ 48 = cc in h))
+-- what the spellings are converted into
+head_spelled : map (λ t. Ok t.kind) head ≡ map spelled head_words
+unfolding spelled word_number punctuator_number
+head_spelled = refl
 
-is_one : IsConstant (codes "1") 1
-is_one = record { some = refl; digits = (refl, tt); no_leading_zero = λ rest. no_zero 49 [] rest (λ e. omega arith); value = refl; fits = lit≤ tt }
+return_spelled : spelled (codes "return") ≡ Ok (Word 39)
+unfolding spelled word_number punctuator_number
+return_spelled = refl
 
-is_two : IsConstant (codes "2") 2
-is_two = record { some = refl; digits = (refl, tt); no_leading_zero = λ rest. no_zero 50 [] rest (λ e. omega arith); value = refl; fits = lit≤ tt }
+semicolon_spelled : spelled (codes ";") ≡ Ok (Punct 2)
+unfolding spelled word_number punctuator_number
+semicolon_spelled = refl
 
-is_three : IsConstant (codes "3") 3
-is_three = record { some = refl; digits = (refl, tt); no_leading_zero = λ rest. no_zero 51 [] rest (λ e. omega arith); value = refl; fits = lit≤ tt }
+brace_spelled : spelled (codes "}") ≡ Ok (Punct 8)
+unfolding spelled word_number punctuator_number
+brace_spelled = refl
 
-is_greatest : IsConstant (codes "2147483647") 2147483647
-is_greatest = record {
-  some = refl;
-  digits = (refl, (refl, (refl, (refl, (refl, (refl, (refl, (refl, (refl, (refl, tt))))))))));
-  no_leading_zero = λ rest. no_zero 50 (codes "147483647") rest (λ e. omega arith);
-  value = refl;
-  fits = lit≤ tt;
-}
+plus_spelled : spelled (codes "+") ≡ Ok (Punct 38)
+unfolding spelled word_number punctuator_number
+plus_spelled = refl
+
+times_spelled : spelled (codes "*") ≡ Ok (Punct 11)
+unfolding spelled word_number punctuator_number
+times_spelled = refl
+
+is_number : (value : ℕ) (is : fits Int (pos value) ≡ true) (column order : ℕ) → IsConstant (number value is column order) value
+is_number value is column order = record { constant = _; kind = refl; basic = refl; value = refl }
 
 -- a constant as a primary, and a product of it alone
-primary_of : (text : List ℕ) (column order number : ℕ) → IsConstant text number → IsPrimary (token text column order ∷ []) (int_constant (pos number) (at column order))
-primary_of text column order number is = constant (token text column order ∷ []) (token text column order) number is refl
+primary_of : (value : ℕ) (is : fits Int (pos value) ≡ true) (column order : ℕ) → IsPrimary (number value is column order ∷ []) (int_constant (pos value) (at column order))
+primary_of value is column order = constant (number value is column order ∷ []) (number value is column order) value (is_number value is column order) refl
 
-product_of : (text : List ℕ) (column order number : ℕ) → IsConstant text number → IsProduct (token text column order ∷ []) (int_constant (pos number) (at column order))
-product_of text column order number is = one_primary (token text column order ∷ []) _ (primary_of text column order number is)
+product_of : (value : ℕ) (is : fits Int (pos value) ≡ true) (column order : ℕ) → IsProduct (number value is column order ∷ []) (int_constant (pos value) (at column order))
+product_of value is column order = one_primary (number value is column order ∷ []) _ (primary_of value is column order)
 
-sum_of : (text : List ℕ) (column order number : ℕ) → IsConstant text number → IsSum (token text column order ∷ []) (int_constant (pos number) (at column order))
-sum_of text column order number is = one_product (token text column order ∷ []) _ (product_of text column order number is)
+sum_of : (value : ℕ) (is : fits Int (pos value) ≡ true) (column order : ℕ) → IsSum (number value is column order ∷ []) (int_constant (pos value) (at column order))
+sum_of value is column order = one_product (number value is column order ∷ []) _ (product_of value is column order)
 
-abbrev product : List Token
-product = token (codes "2") 29 9 ∷ token (codes "*") 31 10 ∷ token (codes "3") 33 11 ∷ []
+abbrev product : List CTok
+product = number 2 refl 29 9 ∷ token (Punct 11) 31 10 ∷ number 3 refl 33 11 ∷ []
 
-abbrev seven_sum : List Token
-seven_sum = token (codes "1") 25 7 ∷ token (codes "+") 27 8 ∷ product
+abbrev seven_sum : List CTok
+seven_sum = number 1 refl 25 7 ∷ token (Punct 38) 27 8 ∷ product
 
 product_is : IsProduct product (int_operation Mul (int_constant (pos 2) (at 29 9)) (int_constant (pos 3) (at 33 11)) (at 31 10))
-product_is = multiplied product (token (codes "2") 29 9 ∷ []) (token (codes "3") 33 11 ∷ []) (token (codes "*") 31 10) _ _ refl (product_of (codes "2") 29 9 2 is_two) (primary_of (codes "3") 33 11 3 is_three) refl
+product_is = multiplied product (number 2 refl 29 9 ∷ []) (number 3 refl 33 11 ∷ []) (token (Punct 11) 31 10) _ _ times_spelled (product_of 2 refl 29 9) (primary_of 3 refl 33 11) refl
 
 seven_sum_is : IsSum seven_sum (int_operation Add (int_constant (pos 1) (at 25 7)) (int_operation Mul (int_constant (pos 2) (at 29 9)) (int_constant (pos 3) (at 33 11)) (at 31 10)) (at 27 8))
-seven_sum_is = added seven_sum (token (codes "1") 25 7 ∷ []) product (token (codes "+") 27 8) _ _ refl (sum_of (codes "1") 25 7 1 is_one) product_is refl
+seven_sum_is = added seven_sum (number 1 refl 25 7 ∷ []) product (token (Punct 38) 27 8) _ _ plus_spelled (sum_of 1 refl 25 7) product_is refl
 
-pub seven_is_a_unit : IsVerdictOn seven_text (IsCore seven_core)
+pub seven_is_a_unit : IsVerdictOn seven_tokens (at 37 14) (IsCore seven_core)
 seven_is_a_unit = (
-  lit≤ tt,
   lit≤ tt,
   record {
     head = head;
-    return_ = token (codes "return") 18 6;
+    return_ = token (Word 39) 18 6;
     sum = seven_sum;
-    semicolon = token (codes ";") 34 12;
-    brace = token (codes "}") 36 13;
+    semicolon = token (Punct 2) 34 12;
+    brace = token (Punct 8) 36 13;
     value = _;
     parts = refl;
-    head_is = refl;
-    return_is = refl;
+    head_is = head_spelled;
+    return_is = return_spelled;
     sum_is = seven_sum_is;
-    semicolon_is = refl;
-    brace_is = refl;
+    semicolon_is = semicolon_spelled;
+    brace_is = brace_spelled;
     core_is = refl;
   },
 )
@@ -134,32 +145,56 @@ seven_spelling =
 pub seven_reads : Reads89 seven_written seven_program
 seven_reads = subst (λ t. Reads89 t seven_program) seven_spelling (program_reads seven_program seven_typed)
 
-abbrev overflow_sum : List Token
-overflow_sum = token (codes "2147483647") 25 7 ∷ token (codes "+") 36 8 ∷ token (codes "1") 38 9 ∷ []
+abbrev overflow_sum : List CTok
+overflow_sum = number 2147483647 refl 25 7 ∷ token (Punct 38) 36 8 ∷ number 1 refl 38 9 ∷ []
 
 overflow_sum_is : IsSum overflow_sum (int_operation Add (int_constant (pos 2147483647) (at 25 7)) (int_constant (pos 1) (at 38 9)) (at 36 8))
-overflow_sum_is = added overflow_sum (token (codes "2147483647") 25 7 ∷ []) (token (codes "1") 38 9 ∷ []) (token (codes "+") 36 8) _ _ refl (sum_of (codes "2147483647") 25 7 2147483647 is_greatest) (product_of (codes "1") 38 9 1 is_one) refl
+overflow_sum_is = added overflow_sum (number 2147483647 refl 25 7 ∷ []) (number 1 refl 38 9 ∷ []) (token (Punct 38) 36 8) _ _ plus_spelled (sum_of 2147483647 refl 25 7) (product_of 1 refl 38 9) refl
 
-pub overflow_is_a_unit : IsVerdictOn overflow_text (IsCore overflow_core)
+pub overflow_is_a_unit : IsVerdictOn overflow_tokens (at 42 12) (IsCore overflow_core)
 overflow_is_a_unit = (
-  lit≤ tt,
   lit≤ tt,
   record {
     head = head;
-    return_ = token (codes "return") 18 6;
+    return_ = token (Word 39) 18 6;
     sum = overflow_sum;
-    semicolon = token (codes ";") 39 10;
-    brace = token (codes "}") 41 11;
+    semicolon = token (Punct 2) 39 10;
+    brace = token (Punct 8) 41 11;
     value = _;
     parts = refl;
-    head_is = refl;
-    return_is = refl;
+    head_is = head_spelled;
+    return_is = return_spelled;
     sum_is = overflow_sum_is;
-    semicolon_is = refl;
-    brace_is = refl;
+    semicolon_is = semicolon_spelled;
+    brace_is = brace_spelled;
     core_is = refl;
   },
 )
 
 pub overflow_is_undefined : (world : List ℤ) → run23 1 overflow_core (codes "main") [] world ≡ record { events = []; moves = []; ending = Undefined Overflow (Some (at 36 8)) }
 overflow_is_undefined world = refl
+
+abbrev pp_token : PpKind → List ℕ → (column order : ℕ) → (first space : Bool) → PpToken
+pp_token kind spelling column order first space = record { kind = kind; place = at column order; first = first; space = space; spelling = spelling }
+
+abbrev seven_pp_tokens : List PpToken
+seven_pp_tokens =
+    pp_token pp_kind.Name (codes "int") 1 0 true false ∷
+    pp_token pp_kind.Name (codes "main") 5 1 false true ∷
+    pp_token pp_kind.Punct (codes "(") 9 2 false false ∷
+    pp_token pp_kind.Name (codes "void") 10 3 false false ∷
+    pp_token pp_kind.Punct (codes ")") 14 4 false false ∷
+    pp_token pp_kind.Punct (codes "{") 16 5 false true ∷
+    pp_token pp_kind.Name (codes "return") 18 6 false true ∷
+    pp_token pp_kind.Number (codes "1") 25 7 false true ∷
+    pp_token pp_kind.Punct (codes "+") 27 8 false true ∷
+    pp_token pp_kind.Number (codes "2") 29 9 false true ∷
+    pp_token pp_kind.Punct (codes "*") 31 10 false true ∷
+    pp_token pp_kind.Number (codes "3") 33 11 false true ∷
+    pp_token pp_kind.Punct (codes ";") 34 12 false false ∷
+    pp_token pp_kind.Punct (codes "}") 36 13 false true ∷ []
+
+-- the text of the first one has its tokens
+pub seven_is_converted : (tokens : List PpToken) × (tokens_of 0 seven_text ≡ Ok tokens) × (c_tokens_of tokens ≡ Ok seven_tokens)
+unfolding tokens_of step_at converted word_number punctuator_number is_punctuator
+seven_is_converted = (seven_pp_tokens, refl, refl)

@@ -2,7 +2,7 @@
 use Rattle.std.proofs.Common.{◌≡◌, ℕ, ◌==◌, List, [], ◌∷◌, ◌++◌, Bool, true, false, not, ◌&&◌, Option, Some, None, if◌then◌else◌, refl, ap, ◌∙◌, append_assoc}
 use Rattle.std.specs.Prelude.{codes}
 use Rattle.std.specs.Str.{bytes_eq}
-use Rattle.c_model.specs.FirstTokens.{is_digit, is_word_byte, begins_with}
+use Rattle.c_model.specs.ByteClasses.{is_digit, is_word_byte, begins_with}
 use Rattle.c_model.specs.SpellingParts89.{blank_before, const_text, pointer_text, count_text, declaration_text, parameters_text}
 use Rattle.c_model.specs.Signs89.{base_text}
 use Rattle.c_model.specs.Types89.{Base, Void, Char, SignedChar, UnsignedChar, Short, UnsignedShort, Int, UnsignedInt, Long, UnsignedLong, Struct, Type89, Based, Pointer, Array, Function}

@@ -2,7 +2,7 @@
 use Rattle.std.proofs.Common.{◌≡◌, ℕ, ◌≤◌, List, [], ◌∷◌, ◌++◌, true, false, Option, Some, None, if◌then◌else◌, refl, sym, ap, ◌∙◌, subst, append_assoc}
 use Rattle.std.specs.Prelude.{codes}
 use Rattle.std.specs.Fmt.{decimal}
-use Rattle.c_model.specs.FirstTokens.{is_digit, is_nondigit, is_word_byte, begins_with, AllBytes}
+use Rattle.c_model.specs.ByteClasses.{is_digit, is_nondigit, is_word_byte, begins_with, AllBytes}
 use Rattle.c_model.specs.Names89.{IsName}
 use Rattle.c_model.specs.SpellingParts89.{declaration_text, expr_text, more_arguments_text}
 use Rattle.c_model.specs.Signs89.{sign_text, logic_text, prefix_text, suffix_text}

@@ -1,7 +1,7 @@
 -- How the declarations of a file begin: storage classes, and the heads of functions.
 use Rattle.std.proofs.Common.{◌≡◌, ℕ, List, [], ◌∷◌, ◌++◌, Bool, true, false, Option, Some, None, if◌then◌else◌, refl, sym, ap, ◌∙◌, subst, arith, append_assoc}
 use Rattle.std.specs.Prelude.{codes}
-use Rattle.c_model.specs.FirstTokens.{is_nondigit, begins_with}
+use Rattle.c_model.specs.ByteClasses.{is_nondigit, begins_with}
 use Rattle.c_model.specs.Names89.{IsName}
 use Rattle.c_model.specs.SpellingParts89.{declaration_text}
 use Rattle.c_model.specs.Spelling89.{named_text, more_named_text, head_text}

@@ -3,7 +3,7 @@ use Rattle.std.proofs.Common.{◌≡◌, ℕ, zero, suc, ◌==◌, List, [], ◌
 use Rattle.std.specs.Prelude.{codes}
 use Rattle.std.specs.Str.{bytes_eq}
 use Rattle.std.proofs.lemmas.Bool.Decides.{nat_tests}
-use Rattle.c_model.specs.FirstTokens.{is_word_byte, begins_with}
+use Rattle.c_model.specs.ByteClasses.{is_word_byte, begins_with}
 use Rattle.c_model.specs.SpellingParts89.{blank_before, declaration_text, expr_text, indent, objects_text, label_text, labels_text}
 use Rattle.c_model.specs.Signs89.{base_text}
 use Rattle.c_model.specs.Types89.{Base, Void, Char, SignedChar, UnsignedChar, Short, UnsignedShort, Int, UnsignedInt, Long, UnsignedLong, Struct, Type89, Based, Pointer, Array, Function}

@@ -2,7 +2,7 @@
 use Rattle.std.proofs.Common.{◌≡◌, ℕ, ◌==◌, List, [], ◌∷◌, ◌++◌, Bool, true, false, not, ◌||◌, Option, Some, None, if◌then◌else◌, refl, sym, ap, ◌∙◌, arith, append_assoc}
 use Rattle.std.specs.Prelude.{codes}
 use Rattle.std.proofs.lemmas.Bool.Decides.{nat_tests}
-use Rattle.c_model.specs.FirstTokens.{is_nondigit, is_word_byte, begins_with}
+use Rattle.c_model.specs.ByteClasses.{is_nondigit, is_word_byte, begins_with}
 use Rattle.c_model.specs.Names89.{IsName}
 use Rattle.c_model.specs.SpellingParts89.{blank_before, pointer_text, count_text, declaration_text, objects_text, stats_text}
 use Rattle.c_model.specs.Spelling89.{value_text, outer_text, outers_text, structure_text, structures_text, head_text, function_text, functions_text}

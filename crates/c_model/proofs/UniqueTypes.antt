@@ -3,7 +3,7 @@ use Rattle.std.proofs.Common.{◌≡◌, ℕ, ◌==◌, List, [], ◌∷◌, ◌
 use Rattle.std.specs.Prelude.{codes}
 use Rattle.std.specs.Fmt.{decimal}
 use Rattle.std.specs.Str.{bytes_eq}
-use Rattle.c_model.specs.FirstTokens.{is_digit, is_word_byte, begins_with}
+use Rattle.c_model.specs.ByteClasses.{is_digit, is_word_byte, begins_with}
 use Rattle.c_model.specs.Names89.{IsName}
 use Rattle.c_model.specs.SpellingParts89.{blank_before, const_text, pointer_text, count_text, declaration_text, parameters_text, others_text}
 use Rattle.c_model.specs.Signs89.{base_text}

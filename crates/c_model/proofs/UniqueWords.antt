@@ -3,7 +3,7 @@ use Rattle.std.proofs.Common.{◌≡◌, ℕ, ◌+◌, ◌-◌, ◌*◌, ◌%◌
 use Rattle.std.specs.Fmt.{decimal}
 use Rattle.std.proofs.lemmas.Bool.Decides.{nat_tests}
 use Rattle.std.proofs.lemmas.Fmt.{decimal_by_steps}
-use Rattle.c_model.specs.FirstTokens.{is_digit, begins_with, AllBytes}
+use Rattle.c_model.specs.ByteClasses.{is_digit, begins_with, AllBytes}
 
 -- what stands behind a front, where it is one
 abbrev pub strip : List ℕ → List ℕ → Option (List ℕ)

@@ -1,45 +1,75 @@
 -- What the command answers, and the text that it puts on err.
-use Rattle.std.specs.Prelude.{◌≡◌, ℕ, List, [], ◌++◌, codes}
-use Rattle.std.specs.Fmt.{decimal}
+use Rattle.std.specs.Prelude.{◌≡◌, ℕ, List, [], ◌++◌, Result, Ok, Err}
 use Rattle.cake_base.specs.declared.places.Place.{Place}
+use Rattle.cake_base.specs.declared.rules.Fault.{Fault}
+use Rattle.cake_base.specs.declared.rules.LimitHit.{LimitHit}
 use Rattle.cake_base.specs.Outside.{Held}
+use Rattle.c_model.specs.declared.words.Mode.{Mode}
+use Rattle.c_model.specs.declared.words.Mode.TheVariants.{Translate, Expand, Check}
 use Rattle.c_model.specs.Core.{Core}
-use Rattle.c_model.specs.Verdict.{Verdict, MainMissing, TooLarge, NotBuilt, IsCore, IsVerdict}
-use Rattle.c_model.specs.Words.{Plan, File, Bad}
+use Rattle.c_model.specs.PpTokens.{PpToken}
+use Rattle.c_model.specs.PreprocessedUnit.{Prepared, preprocessed}
+use Rattle.c_model.specs.Processes.{Stop, broken, passed, unread, Log, Refusal}
+use Rattle.c_model.specs.ReportLines.{name_in, fault_line, limit_line, not_built_line, cannot_read_line, usage_line, notes_text}
+use Rattle.c_model.specs.Verdict.{Verdict, Stopped, NotBuilt, IsCore, IsVerdict}
+use Rattle.c_model.specs.Words.{Plan}
+
+-- what goes to out: a C89 text of a core, preprocessed tokens, or nothing
+pub data Delivery : Type 0 where
+  AText : (core : Core) → Delivery
+  Tokens : (tokens : List PpToken) → Delivery
+  NoText : Delivery
 
 pub data Answer : Type 0 where
   Usage : (number : ℕ) → Answer
-  Unreadable : (name : List ℕ) → Answer
-  Refused : (name : List ℕ) (place : Place) → Answer
-  Written : (core : Core) → Answer
+  Unreadable : (log : Log) (name : List ℕ) → Answer
+  Refused : (log : Log) (fault : Fault) → Answer
+  Unbuilt : (log : Log) (place : Place) → Answer
+  Limited : (log : Log) (hit : LimitHit) → Answer
+  Written : (log : Log) (delivery : Delivery) → Answer
 
--- NAME:LINE:COLUMN
-abbrev pub place_text : List ℕ → Place → List ℕ
-place_text name place = name ++ (codes ":" ++ (decimal place.line ++ (codes ":" ++ decimal place.column)))
-
-abbrev pub usage_line : ℕ → List ℕ
-usage_line number = codes "cake: usage: word " ++ (decimal number ++ codes "\n")
-
-abbrev pub cannot_read_line : List ℕ → List ℕ
-cannot_read_line name = codes "cake: cannot read " ++ (name ++ codes "\n")
-
-abbrev pub not_built_line : List ℕ → Place → List ℕ
-not_built_line name place = place_text name place ++ codes ": not built yet\n"
-
+-- the notes come first
 abbrev pub err_text : Answer → List ℕ
 err_text (Usage number) = usage_line number
-err_text (Unreadable name) = cannot_read_line name
-err_text (Refused name place) = not_built_line name place
-err_text (Written core) = []
+err_text (Unreadable log name) = notes_text log ++ cannot_read_line name
+err_text (Refused log fault) = notes_text log ++ fault_line log fault
+err_text (Unbuilt log place) = notes_text log ++ not_built_line log place
+err_text (Limited log hit) = notes_text log ++ limit_line log hit
+err_text (Written log delivery) = notes_text log
 
--- the answer to a verdict on the file of a name
-abbrev pub answer_on : List ℕ → Verdict → Answer
-answer_on name MainMissing = Unreadable name
-answer_on name TooLarge = Unreadable name
-answer_on name (NotBuilt place) = Refused name place
-answer_on name (IsCore core) = Written core
+-- the answer where a unit isn't translated to its end
+abbrev pub answer_to_stop : Log → Stop → Answer
+answer_to_stop log (broken fault) = Refused log fault
+answer_to_stop log (passed hit) = Limited log hit
+answer_to_stop log (unread file cause) = Unreadable log (name_in log file)
+
+-- with `--check` nothing goes to out
+abbrev pub delivery_of : Mode → Core → Delivery
+delivery_of Translate core = AText core
+delivery_of Expand core = NoText
+delivery_of Check core = NoText
+
+abbrev pub answer_to : Mode → Log → Verdict → Answer
+answer_to mode log (Stopped stop) = answer_to_stop log stop
+answer_to mode log (NotBuilt place) = Unbuilt log place
+answer_to mode log (IsCore core) = Written log (delivery_of mode core)
+
+abbrev pub log_of : Result Prepared Refusal → Log
+log_of (Ok unit) = unit.log
+log_of (Err refusal) = refusal.log
+
+-- with `-E` preprocessing alone decides
+abbrev pub expanded : Result Prepared Refusal → Answer
+expanded (Ok unit) = Written unit.log (Tokens unit.tokens)
+expanded (Err refusal) = answer_to_stop refusal.log refusal.stop
+
+-- the answer where preprocessing gives this
+abbrev pub IsAnswerIn : Mode → Result Prepared Refusal → Answer → Type 0
+IsAnswerIn Expand done answer = answer ≡ expanded done
+IsAnswerIn Translate done answer = (verdict : Verdict) × IsVerdict done verdict × (answer ≡ answer_to Translate (log_of done) verdict)
+IsAnswerIn Check done answer = (verdict : Verdict) × IsVerdict done verdict × (answer ≡ answer_to Check (log_of done) verdict)
 
 -- the answer that words and files determine
-abbrev pub IsAnswer : Plan → Held → Answer → Type 0
-IsAnswer (Bad number) held answer = answer ≡ Usage number
-IsAnswer (File name) held answer = (verdict : Verdict) × IsVerdict held name verdict × (answer ≡ answer_on name verdict)
+abbrev pub IsAnswer : Result Plan ℕ → Held → Answer → Type 0
+IsAnswer (Err number) held answer = answer ≡ Usage number
+IsAnswer (Ok plan) held answer = IsAnswerIn plan.mode (preprocessed held plan.options plan.file) answer

@@ -1,8 +1,13 @@
--- Two first units, worked by hand: their texts, cores and programs.
-use Rattle.std.specs.Prelude.{ℕ, pos, false, List, [], ◌∷◌, codes, None}
+-- Two first units, worked by hand: their texts, tokens, cores and programs.
+use Rattle.std.specs.Prelude.{◌≡◌, ℕ, pos, true, false, List, [], ◌∷◌, ◌++◌, codes, None, refl}
 use Rattle.cake_base.specs.declared.places.Place.{Place}
+use Rattle.c_model.specs.declared.numbers.Basic.TheVariants.{Int}
 use Rattle.c_model.specs.declared.numbers.BinOp.TheVariants.{Mul, Add}
+use Rattle.c_model.specs.declared.tokens.CKind.{CKind}
+use Rattle.c_model.specs.declared.tokens.CKind.TheVariants.{Word, Name, Integer, Punct}
+use Rattle.c_model.specs.declared.tokens.CTok.{CTok}
 use Rattle.c_model.specs.Core.{Core}
+use Rattle.c_model.specs.Operations.{fits}
 use Rattle.c_model.specs.FirstUnit.{returning, int_constant, int_operation}
 use Rattle.c_model.specs.Types89.{Function, no_types, int_type}
 use Rattle.c_model.specs.Program89 as target
@@ -13,6 +18,25 @@ at column order = record { file = 0; line = 1; column = column; order = order }
 
 abbrev pub seven_text : List ℕ
 seven_text = codes "int main(void) { return 1 + 2 * 3; }"
+
+abbrev pub token : CKind → (column order : ℕ) → CTok
+token kind column order = record { kind = kind; place = at column order }
+
+-- a constant that fits int
+abbrev pub number : (value : ℕ) → fits Int (pos value) ≡ true → (column order : ℕ) → CTok
+number value is column order = token (Integer (record { value = pos value; basic = Int; in_range = is })) column order
+
+-- `int main(void) { return`
+abbrev pub front_tokens : List CTok
+front_tokens =
+    token (Word 14) 1 0 ∷ token (Name (codes "main")) 5 1 ∷ token (Punct 3) 9 2 ∷ token (Word 11) 10 3 ∷ token (Punct 4) 14 4 ∷
+    token (Punct 7) 16 5 ∷ token (Word 39) 18 6 ∷ []
+
+abbrev pub seven_tokens : List CTok
+seven_tokens =
+    front_tokens
+    ++ (number 1 refl 25 7 ∷ token (Punct 38) 27 8 ∷ number 2 refl 29 9 ∷ token (Punct 11) 31 10 ∷ number 3 refl 33 11 ∷
+    token (Punct 2) 34 12 ∷ token (Punct 8) 36 13 ∷ [])
 
 abbrev pub seven_core : Core
 seven_core = returning (int_operation Add (int_constant (pos 1) (at 25 7)) (int_operation Mul (int_constant (pos 2) (at 29 9)) (int_constant (pos 3) (at 33 11)) (at 31 10)) (at 27 8)) (at 18 6)
@@ -44,6 +68,11 @@ seven_written = codes "int main(void);\n\nint main(void)\n{\n    return (1 + (2 
 
 abbrev pub overflow_text : List ℕ
 overflow_text = codes "int main(void) { return 2147483647 + 1; }"
+
+abbrev pub overflow_tokens : List CTok
+overflow_tokens =
+    front_tokens
+    ++ (number 2147483647 refl 25 7 ∷ token (Punct 38) 36 8 ∷ number 1 refl 38 9 ∷ token (Punct 2) 39 10 ∷ token (Punct 8) 41 11 ∷ [])
 
 abbrev pub overflow_core : Core
 overflow_core = returning (int_operation Add (int_constant (pos 2147483647) (at 25 7)) (int_constant (pos 1) (at 38 9)) (at 36 8)) (at 18 6)

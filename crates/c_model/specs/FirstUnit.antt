@@ -1,28 +1,35 @@
--- The grammar of the units `int main(void) { return E; }`, with the core of each (ISO/IEC 9899:2024,
--- 6.5.6, 6.5.7 and 6.9.2), and the token with which no such unit can go on.
-use Rattle.std.specs.Prelude.{◌≡◌, ℕ, ◌+◌, ◌-◌, ◌*◌, ◌<◌, ◌≤◌, ℤ, pos, true, false, List, [], ◌∷◌, ◌++◌, map, take, length, codes}
+-- The grammar of the units `int main(void) { return E; }`, over tokens of C, with the core of each
+-- (ISO/IEC 9899:2024, 6.5.6, 6.5.7 and 6.9.2), and the token with which no such unit can go on.
+use Rattle.std.specs.Prelude.{◌≡◌, ℕ, zero, suc, ◌+◌, ◌<◌, ◌≤◌, ℤ, pos, true, false, if◌then◌else◌, List, [], ◌∷◌, ◌++◌, map, take, length, Result, Ok, Err, codes}
 use Rattle.cake_base.specs.declared.places.Place.{Place}
+use Rattle.c_model.specs.declared.numbers.Basic.TheVariants.{Int}
 use Rattle.c_model.specs.declared.numbers.BinOp.{BinOp}
 use Rattle.c_model.specs.declared.numbers.BinOp.TheVariants.{Mul, Add, Sub}
+use Rattle.c_model.specs.declared.numbers.Const.{Const}
 use Rattle.c_model.specs.declared.marks.Mark.{Mark}
 use Rattle.c_model.specs.declared.marks.Span.{Span}
+use Rattle.c_model.specs.declared.tokens.CKind.{CKind}
+use Rattle.c_model.specs.declared.tokens.CKind.TheVariants.{Integer}
+use Rattle.c_model.specs.declared.tokens.CTok.{CTok}
+use Rattle.c_model.specs.declared.tokens.TokenRule.{TokenRule}
 use Rattle.c_model.specs.CoreTypes.{int_type, plain}
 use Rattle.c_model.specs.Types.{CType, Function as FunctionForm, no_types}
-use Rattle.c_model.specs.FirstTokens.{Token, is_digit, begins_with, AllBytes}
+use Rattle.c_model.specs.CTokens.{is_identifier, name_token, punctuator_token}
 use Rattle.c_model.specs.Core.{Expr, Constant, Binary, Return, Block, an_expr, a_stat, stats, Named, Core}
 
--- the value of decimal digits that stand behind a number
-abbrev pub digits_value : (before : ℕ) → List ℕ → ℕ
-digits_value before [] = before
-digits_value before (digit ∷ digits) = digits_value (10 * before + (digit - 48)) digits
+-- what a spelling of a word, a name or a punctuator is converted into
+unfoldable pub spelled : List ℕ → Result CKind TokenRule
+spelled spelling = if is_identifier spelling then name_token spelling else punctuator_token spelling
 
--- a decimal constant of type int: 0, or digits of which the first isn't 0, up to the greatest int
-pub record IsConstant (text : List ℕ) (number : ℕ) : Type 0 where
-  pub some : begins_with is_digit text ≡ true
-  pub digits : AllBytes is_digit text
-  pub no_leading_zero : (rest : List ℕ) → text ≡ codes "0" ++ rest → rest ≡ []
-  pub value : digits_value 0 text ≡ number
-  pub fits : number ≤ 2147483647
+abbrev pub IsSpelled : List ℕ → CTok → Type 0
+IsSpelled spelling token = spelled spelling ≡ Ok token.kind
+
+-- a constant of type int that isn't negative, however it is spelled
+pub record IsConstant (token : CTok) (number : ℕ) : Type 0 where
+  pub constant : Const
+  pub kind : token.kind ≡ Integer constant
+  pub basic : constant.basic ≡ Int
+  pub value : constant.value ≡ pos number
 
 -- the mark of an expression; these units have no rule that asks for its first tokens
 abbrev pub mark_at : Place → Mark
@@ -44,20 +51,20 @@ main_type = plain (FunctionForm int_type no_types false)
 
 mutual
   -- sum = product | sum ("+" | "-") product
-  pub data IsSum : List Token → Expr → Type 0 where
-    one_product : (ts : List Token) (e : Expr) → IsProduct ts e → IsSum ts e
-    added : (ts : List Token) (left right : List Token) (sign : Token) (a b : Expr) → sign.text ≡ codes "+" → IsSum left a → IsProduct right b → ts ≡ left ++ sign ∷ right → IsSum ts (int_operation Add a b sign.place)
-    subtracted : (ts : List Token) (left right : List Token) (sign : Token) (a b : Expr) → sign.text ≡ codes "-" → IsSum left a → IsProduct right b → ts ≡ left ++ sign ∷ right → IsSum ts (int_operation Sub a b sign.place)
+  pub data IsSum : List CTok → Expr → Type 0 where
+    one_product : (ts : List CTok) (e : Expr) → IsProduct ts e → IsSum ts e
+    added : (ts : List CTok) (left right : List CTok) (sign : CTok) (a b : Expr) → IsSpelled (codes "+") sign → IsSum left a → IsProduct right b → ts ≡ left ++ sign ∷ right → IsSum ts (int_operation Add a b sign.place)
+    subtracted : (ts : List CTok) (left right : List CTok) (sign : CTok) (a b : Expr) → IsSpelled (codes "-") sign → IsSum left a → IsProduct right b → ts ≡ left ++ sign ∷ right → IsSum ts (int_operation Sub a b sign.place)
 
   -- product = primary | product "*" primary
-  pub data IsProduct : List Token → Expr → Type 0 where
-    one_primary : (ts : List Token) (e : Expr) → IsPrimary ts e → IsProduct ts e
-    multiplied : (ts : List Token) (left right : List Token) (sign : Token) (a b : Expr) → sign.text ≡ codes "*" → IsProduct left a → IsPrimary right b → ts ≡ left ++ sign ∷ right → IsProduct ts (int_operation Mul a b sign.place)
+  pub data IsProduct : List CTok → Expr → Type 0 where
+    one_primary : (ts : List CTok) (e : Expr) → IsPrimary ts e → IsProduct ts e
+    multiplied : (ts : List CTok) (left right : List CTok) (sign : CTok) (a b : Expr) → IsSpelled (codes "*") sign → IsProduct left a → IsPrimary right b → ts ≡ left ++ sign ∷ right → IsProduct ts (int_operation Mul a b sign.place)
 
   -- primary = constant | "(" sum ")"
-  pub data IsPrimary : List Token → Expr → Type 0 where
-    constant : (ts : List Token) (token : Token) (number : ℕ) → IsConstant token.text number → ts ≡ token ∷ [] → IsPrimary ts (int_constant (pos number) token.place)
-    parenthesised : (ts : List Token) (open_ close : Token) (inner : List Token) (e : Expr) → open_.text ≡ codes "(" → close.text ≡ codes ")" → IsSum inner e → ts ≡ open_ ∷ (inner ++ close ∷ []) → IsPrimary ts e
+  pub data IsPrimary : List CTok → Expr → Type 0 where
+    constant : (ts : List CTok) (token : CTok) (number : ℕ) → IsConstant token number → ts ≡ token ∷ [] → IsPrimary ts (int_constant (pos number) token.place)
+    parenthesised : (ts : List CTok) (open_ close : CTok) (inner : List CTok) (e : Expr) → IsSpelled (codes "(") open_ → IsSpelled (codes ")") close → IsSum inner e → ts ≡ open_ ∷ (inner ++ close ∷ []) → IsPrimary ts e
 
 -- the words of a unit before its `return`
 abbrev pub head_words : List (List ℕ)
@@ -82,34 +89,40 @@ returning value place = record {
 }
 
 -- unit = "int" "main" "(" "void" ")" "{" "return" sum ";" "}"
-pub record IsUnit (ts : List Token) (core : Core) : Type 0 where
-  pub head : List Token
-  pub return_ : Token
-  pub sum : List Token
-  pub semicolon : Token
-  pub brace : Token
+pub record IsUnit (ts : List CTok) (core : Core) : Type 0 where
+  pub head : List CTok
+  pub return_ : CTok
+  pub sum : List CTok
+  pub semicolon : CTok
+  pub brace : CTok
   pub value : Expr
   pub parts : ts ≡ head ++ return_ ∷ (sum ++ semicolon ∷ brace ∷ [])
-  pub head_is : map (λ t. t.text) head ≡ head_words
-  pub return_is : return_.text ≡ codes "return"
+  pub head_is : map (λ t. Ok t.kind) head ≡ map spelled head_words
+  pub return_is : IsSpelled (codes "return") return_
   pub sum_is : IsSum sum value
-  pub semicolon_is : semicolon.text ≡ codes ";"
-  pub brace_is : brace.text ≡ codes "}"
+  pub semicolon_is : IsSpelled (codes ";") semicolon
+  pub brace_is : IsSpelled (codes "}") brace
   pub core_is : core ≡ returning value return_.place
 
 -- some unit begins with these tokens
-abbrev pub CanGoOn : List Token → Type 0
-CanGoOn ts = (rest : List Token) × (core : Core) × IsUnit (ts ++ rest) core
+abbrev pub CanGoOn : List CTok → Type 0
+CanGoOn ts = (rest : List CTok) × (core : Core) × IsUnit (ts ++ rest) core
 
 -- why reading stops at the token of a rank: no unit goes on with it; or it is the hundred and first; or
 -- the tokens are at their end and no unit yet
-pub data StopsFor (ts : List Token) (rank : ℕ) : Type 0 where
+pub data StopsFor (ts : List CTok) (rank : ℕ) : Type 0 where
   no_unit_goes_on : rank < length ts → (CanGoOn (take (1 + rank) ts) → ⊥) → StopsFor ts rank
   too_many : rank < length ts → rank ≡ 100 → StopsFor ts rank
   too_few : rank ≡ length ts → ((core : Core) → IsUnit ts core → ⊥) → StopsFor ts rank
 
 -- the first token at which reading stops has this rank
-pub record StopsAt (ts : List Token) (rank : ℕ) : Type 0 where
+pub record StopsAt (ts : List CTok) (rank : ℕ) : Type 0 where
   pub before : CanGoOn (take rank ts)
   pub count : rank ≤ 100
   pub cause : StopsFor ts rank
+
+-- the place of the token of a rank; behind the last one, that of the end
+abbrev pub token_place : List CTok → Place → ℕ → Place
+token_place [] end rank = end
+token_place (token ∷ tokens) end zero = token.place
+token_place (token ∷ tokens) end (suc rank) = token_place tokens end rank

@@ -69,12 +69,7 @@ pub mod Examples
 pub mod ExampleList
 pub mod ExampleTexts
 pub mod ExampleMemory
-pub mod FirstTokens
-pub mod FirstUnit
-pub mod FirstRow
-pub mod Verdict
-pub mod Words
-pub mod Answer
+pub mod ByteClasses
 pub mod FlowGraph
 pub mod PossibleState
 pub mod Findings
@@ -130,3 +125,11 @@ pub mod ConditionalLines
 pub mod Preprocessing
 pub mod Included
 pub mod PreprocessedUnit
+pub mod Words
+pub mod FirstUnit
+pub mod FirstRow
+pub mod Verdict
+pub mod ExpandedText
+pub mod RuleTexts
+pub mod ReportLines
+pub mod Answer

@@ -1,7 +1,7 @@
 -- The names of a C89 program (ISO/IEC 9899:1990, 6.1.1, 6.1.2).
 use Rattle.std.specs.Prelude.{◌≡◌, ℕ, Bool, true, false, ◌||◌, List, [], ◌∷◌, codes}
 use Rattle.std.specs.Str.{bytes_eq}
-use Rattle.c_model.specs.FirstTokens.{is_nondigit, is_word_byte, begins_with, AllBytes}
+use Rattle.c_model.specs.ByteClasses.{is_nondigit, is_word_byte, begins_with, AllBytes}
 
 -- the words of C89, which are no names (6.1.1)
 abbrev pub words : List (List ℕ)

@@ -3,7 +3,7 @@
 use Rattle.std.specs.Prelude.{ℕ, Bool, ◌&&◌, not, List, [], ◌∷◌, codes}
 use Rattle.std.specs.List.{list_any, list_all}
 use Rattle.std.specs.Str.{bytes_eq}
-use Rattle.c_model.specs.FirstTokens.{is_nondigit, is_word_byte, begins_with}
+use Rattle.c_model.specs.ByteClasses.{is_nondigit, is_word_byte, begins_with}
 
 abbrev pub source_words : List (List ℕ)
 source_words =

@@ -1,5 +1,5 @@
 //! Laws of the definitions: each function does nothing, and its contract is the law.
-ghost use Rattle.std.specs.Prelude.{◌≡◌, ℕ, ℤ, pos, List, [], Some, codes};
+ghost use Rattle.std.specs.Prelude.{◌≡◌, ℕ, ℤ, pos, List, [], Some, Ok, codes};
 ghost use Rattle.c_model.specs.Program89.{Program};
 ghost use Rattle.c_model.specs.Typing89.{Typed};
 ghost use Rattle.c_model.specs.Spelling89.{canonical};
@@ -8,8 +8,10 @@ ghost use Rattle.c_model.specs.Memory.{Single, Number};
 ghost use Rattle.c_model.specs.Run.{Returned, Undefined};
 ghost use Rattle.c_model.specs.SourceRun.{run23};
 ghost use Rattle.c_model.specs.TargetRun.{run89};
+ghost use Rattle.c_model.specs.PpTokens.{PpToken, tokens_of};
+ghost use Rattle.c_model.specs.CTokens.{c_tokens_of};
 ghost use Rattle.c_model.specs.Verdict.{IsCore, IsVerdictOn};
-ghost use Rattle.c_model.specs.FirstRow.{at, seven_text, seven_core, seven_program, seven_written, overflow_text, overflow_core};
+ghost use Rattle.c_model.specs.FirstRow.{at, seven_text, seven_tokens, seven_core, seven_program, seven_written, overflow_tokens, overflow_core};
 
 use crate::outcomes::Cause;
 
@@ -23,9 +25,14 @@ pub fn read_text_is_spelled()
     ensures { (text : List ℕ) (program : Program) → Reads89 text program → canonical program ≡ text }
 {}
 
-/// The text of a first unit has its core as its verdict.
+/// The text of a first unit has its tokens.
+pub fn seven_is_converted()
+    ensures { (tokens : List PpToken) × (tokens_of 0 seven_text ≡ Ok tokens) × (c_tokens_of tokens ≡ Ok seven_tokens) }
+{}
+
+/// They have its core as their verdict.
 pub fn seven_is_a_unit()
-    ensures { IsVerdictOn seven_text (IsCore seven_core) }
+    ensures { IsVerdictOn seven_tokens (at 37 14) (IsCore seven_core) }
 {}
 
 /// Its `main` returns 7 with one turn, whatever the world.
@@ -41,7 +48,7 @@ pub fn seven_is_written()
 
 /// A sum past the greatest int is a unit, and its run is undefined at the operator.
 pub fn overflow_is_undefined()
-    ensures unit { IsVerdictOn overflow_text (IsCore overflow_core) }
+    ensures unit { IsVerdictOn overflow_tokens (at 42 12) (IsCore overflow_core) }
     ensures run { (world : List ℤ) → run23 1 overflow_core (codes "main") [] world ≡ record { events = []; moves = []; ending = Undefined Cause.Overflow (Some (at 36 8)) } }
 {}
 

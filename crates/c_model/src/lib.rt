@@ -7,7 +7,6 @@
 pub mod constants;
 pub mod directives;
 pub mod examples;
-pub mod first_tokens;
 pub mod flow;
 pub mod grammar;
 pub mod grammar_laws;
@@ -25,3 +24,4 @@ pub mod steps;
 pub mod token_laws;
 pub mod tokens;
 pub mod types;
+pub mod words;

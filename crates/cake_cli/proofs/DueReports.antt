@@ -1,123 +1,118 @@
--- Which answer is due, by what a read of the main file gave, and its report.
-use Rattle.std.proofs.Common.{◌≡◌, ℕ, zero, suc, if◌then◌else◌, ◌<◌, ◌≤◌, List, [], ◌∷◌, length, Option, Some, None, Bool, true, false, nat_lt, refl, sym, ap, subst, arith, inl, inr}
-use Rattle.std.proofs.lemmas.Bool.Decides.{nat_tests}
-use Rattle.std.proofs.lemmas.Slice.Eq.{bytes_eq-Decides}
-use Rattle.cake_base.specs.Outside.{Held, bytes_under, max_file, StandsUnder, IsMissing, IsTooLarge}
+-- Which answer is due, by what preprocessing gave, and its report.
+use Rattle.std.proofs.Common.{◌≡◌, ℕ, List, [], ◌∷◌, Option, Some, None, Result, Ok, Err, refl, sym, ap, ◌∙◌, subst, inl, inr}
 use Rattle.cake_base.specs.declared.places.Place.{Place}
-use Rattle.c_model.specs.FirstTokens.{tokens, end_place}
+use Rattle.cake_base.specs.declared.rules.Fault.{Fault}
+use Rattle.cake_base.specs.Outside.{Held, FilesView}
+use Rattle.c_model.specs.declared.directives.ReadCause.{ReadCause}
+use Rattle.c_model.specs.declared.directives.ReadCause.TheVariants as cause
+use Rattle.c_model.specs.declared.tokens.CTok.{CTok}
+use Rattle.c_model.specs.declared.words.Mode.{Mode}
+use Rattle.c_model.specs.declared.words.Mode.TheVariants.{Translate, Expand, Check}
+use Rattle.c_model.specs.CTokens.{c_tokens_of}
 use Rattle.c_model.specs.FirstUnit.{returning}
-use Rattle.c_model.specs.Spelling89.{canonical}
-use Rattle.c_model.specs.Verdict.{Verdict, MainMissing, TooLarge, NotBuilt, IsCore, IsVerdictOn, IsVerdictOf, IsVerdict}
-use Rattle.c_model.specs.Words.{Plan, File, Bad}
-use Rattle.c_model.specs.Answer.{Answer, Usage, Unreadable, answer_on, cannot_read_line, not_built_line, IsAnswer}
+use Rattle.c_model.specs.PreprocessedUnit.{Prepared, preprocessed, unit}
+use Rattle.c_model.specs.Processes.{ReadAnswer, NotHeld, Stop, broken, passed, unread, Log, Refusal, Process, gives, refuses, asks}
+use Rattle.c_model.specs.Verdict.{Verdict, Stopped, NotBuilt, IsCore, IsVerdictOn, IsVerdictOf, IsVerdict}
+use Rattle.c_model.specs.Words.{Plan}
+use Rattle.c_model.specs.Answer.{Answer, Usage, answer_to_stop, answer_to, log_of, expanded, IsAnswerIn}
+use Rattle.pp_directives.specs.declared.errors.PrepError.{PrepError}
+use Rattle.pp_directives.specs.declared.errors.PrepError.TheVariants as prep_error
+use Rattle.pp_directives.specs.Outcomes.{halted, FailsRead, Stops, Runs}
+use Rattle.pp_directives.specs.Promise as pp
+use Rattle.pp_directives.specs.Reads.{Asked, Reads, After, Reaches}
 use Rattle.cake_cli.specs.declared.report.Report.{Report}
-use Rattle.cake_cli.specs.declared.status.Status.TheVariants as status
-use Rattle.cake_cli.specs.declared.expression.Expr.{Expr}
+use Rattle.cake_cli.specs.Call.{Call, ComesOf, IsDueIn, IsDue}
 use Rattle.cake_cli.specs.Reader as reader
-use Rattle.cake_cli.specs.Views.{expr_of, target_of}
-use Rattle.cake_cli.specs.Lowered.{program_of}
 use Rattle.cake_cli.specs.ReadsAs.{ReadsAs}
-use Rattle.cake_cli.specs.Promise.{Call, AreHeld, IsDue, ReadFailed}
-use Rattle.cake_cli.specs.Reports.{ReportsText, ReportsFile}
+use Rattle.cake_cli.specs.Reports.{IsReport, ReportsDone, ReportsStop, ReportsPlan, stop_of, unread_answer}
 use Rattle.cake_cli.proofs.Verdicts.{reading_is_verdict}
-use Rattle.cake_cli.proofs.Runs.{delivers}
 
--- the report of a text at which reading stops
-pub stopped_report : (name text : List ℕ) (place : Place) (r : Report) → length text ≤ max_file → reader.Stops place ≡ reader.read_unit (tokens text) (end_place text) → r.status ≡ status.Refused → r.out ≡ [] → r.err ≡ not_built_line name place → ReportsText name text r
-stopped_report name text place r size reads s o e =
-    (NotBuilt place, subst (ReadsAs text) (sym reads) (reading_is_verdict text size), record { status = s; out = o; err = e })
+-- ---- what preprocessing comes to
 
--- the report of a whole unit
-pub written_report : (name text : List ℕ) (value : Expr) (r : Report) → length text ≤ max_file → reader.Reads (expr_of value) ≡ reader.read_unit (tokens text) (end_place text) → r.status ≡ status.Written → r.out ≡ canonical (program_of (target_of value)) → r.err ≡ [] → ReportsText name text r
-written_report name text value r size reads s o e =
-    let said : ReadsAs text (reader.Reads (expr_of value)) = subst (ReadsAs text) (sym reads) (reading_is_verdict text size) in
-    (IsCore (returning (expr_of value) said.0), said.1, record { status = s; out = delivers value said.0 r.out o; err = e })
+after_comes : (p q : Process Prepared) (reads : List Asked) (done : Result Prepared Refusal) → After p reads q → ComesOf q done → ComesOf p done
+after_comes p q [] done e h = subst (λ x. ComesOf x done) (sym e) h
+after_comes (gives unit) q (r ∷ rs) done e h = absurd e
+after_comes (refuses refusal) q (r ∷ rs) done e h = absurd e
+after_comes (asks name next) q (r ∷ rs) done (named, rest) h = (r.answer, after_comes (next r.answer) q rs done rest h)
 
--- the answer to the bytes of the main file is due
-only : List ℕ → List ℕ → Held
-only name text = (name, text) ∷ []
+reaches_comes : (old new : FilesView) (p q : Process Prepared) (done : Result Prepared Refusal) → Reaches old new p q → ComesOf q done → ComesOf p done
+reaches_comes old new p q done (reads, are, after) h = after_comes p q reads done after h
 
-under_only : (name text : List ℕ) → bytes_under (only name text) name ≡ Some text
-unfolding only
-under_only name text = ap (λ b. if b then Some text else None) ((bytes_eq-Decides name name).1 refl)
+-- some answers lead to something
+some_done : (p : Process Prepared) → (done : Result Prepared Refusal) × ComesOf p done
+some_done (gives unit) = (Ok unit, refl)
+some_done (refuses refusal) = (Err refusal, refl)
+some_done (asks name next) = let rest = some_done (next NotHeld) in (rest.0, (NotHeld, rest.1))
 
-verdict_on : (found : Option (List ℕ)) (text : List ℕ) (v : Verdict) → found ≡ Some text → IsVerdictOn text v → IsVerdictOf found v
-verdict_on found text v e is = subst (λ f. IsVerdictOf f v) (sym e) is
+-- the answer in a mode to what preprocessing gives is due
+due_by : (told : Option Held) (plan : Plan) (p : Process Prepared) (done : Result Prepared Refusal) (due : Answer) → ((held : Held) → told ≡ Some held → preprocessed held plan.options plan.file ≡ done) → ComesOf (unit plan.options plan.file) done → IsAnswerIn plan.mode done due → IsDueIn told plan due
+due_by None plan p done due held comes is = (done, comes, is)
+due_by (Some h) plan p done due held comes is = subst (λ d. IsAnswerIn plan.mode d due) (sym (held h refl)) is
 
-due_by : (told : Option Held) (name text : List ℕ) (v : Verdict) → StandsUnder told name (Some text) → IsVerdictOn text v → (held : Held) × AreHeld told held × IsAnswer (File name) held (answer_on name v)
-due_by None name text v stands is = (only name text, tt, (v, verdict_on _ text v (under_only name text) is, refl))
-due_by (Some held) name text v stands is = (held, refl, (v, verdict_on _ text v stands is, refl))
+-- ---- the report of a unit that is preprocessed
 
-pub file_report : (name text : List ℕ) (c : Call) (r : Report) → StandsUnder c.files.held name (Some text) → ReportsText name text r → ReportsFile name c r
-file_report name text c r stands (v, is, report) = inl (answer_on name v, due_by c.files.held name text v stands is, report)
+held_done : (told : Option Held) (plan : Plan) (prep : pp.Prep) (log : Log) → pp.IsDue told plan.options plan.file (Ok prep) log → (held : Held) → told ≡ Some held → preprocessed held plan.options plan.file ≡ Ok (pp.with_log log prep)
+held_done None plan prep log due held e = absurd (let h : None ≡ Some held = e in cc)
+held_done (Some h) plan prep log due held e = ap (λ x. preprocessed x plan.options plan.file) (sym (let same : h ≡ held = cc in same)) ∙ due
 
-missing_by : (told : Option Held) (name : List ℕ) (before now : ℕ) → IsMissing told name before now → (held : Held) × AreHeld told held × IsAnswer (File name) held (Unreadable name)
-missing_by None name before now missing = ([], tt, (MainMissing, refl, refl))
-missing_by (Some held) name before now missing = (held, refl, (MainMissing, subst (λ f. IsVerdictOf f MainMissing) (sym missing) refl, refl))
+pub prepared_reported : (plan : Plan) (prep : pp.Prep) (log : Log) (c : Call) (r : Report) → pp.IsDue c.files.held plan.options plan.file (Ok prep) log → Runs c.files c.files' (unit plan.options plan.file) (Ok {E = PrepError} prep) (pp.with_log log) log → ReportsDone plan.mode (Ok (pp.with_log log prep)) r → ReportsPlan plan c r
+prepared_reported plan prep log c r due answered (answer, is, report) =
+    inl (answer, due_by c.files.held plan (unit plan.options plan.file) (Ok (pp.with_log log prep)) answer (held_done c.files.held plan prep log due) (reaches_comes c.files c.files' _ _ _ answered refl) is, report)
 
-unreadable_report : (name : List ℕ) (c : Call) (r : Report) → IsDue (File name) c (Unreadable name) → r.status ≡ status.ReadFault → r.out ≡ [] → r.err ≡ cannot_read_line name → ReportsFile name c r
-unreadable_report name c r due s o e = inl (Unreadable name, due, record { status = s; out = o; err = e })
+-- ---- the report where it stops
 
-pub missing_report : (name : List ℕ) (c : Call) (r : Report) → IsMissing c.files.held name c.files.misses c.files'.misses → r.status ≡ status.ReadFault → r.out ≡ [] → r.err ≡ cannot_read_line name → ReportsFile name c r
-missing_report name c r missing = unreadable_report name c r (missing_by c.files.held name c.files.misses c.files'.misses missing)
+stop_answer : (mode : Mode) (refusal : Refusal) → IsAnswerIn mode (Err refusal) (answer_to_stop refusal.log refusal.stop)
+stop_answer Expand refusal = refl
+stop_answer Translate refusal = (Stopped refusal.stop, refl, refl)
+stop_answer Check refusal = (Stopped refusal.stop, refl, refl)
 
--- a list that is longer than a number
-longer : ℕ → List ℕ
-longer zero = 0 ∷ []
-longer (suc n) = 0 ∷ longer n
+stopped_reported : (plan : Plan) (stop : Stop) (log : Log) (c : Call) (r : Report) → ((held : Held) → c.files.held ≡ Some held → preprocessed held plan.options plan.file ≡ pp.refused stop log) → Reaches c.files c.files' (unit plan.options plan.file) (halted stop log) → IsReport (answer_to_stop log stop) r → ReportsPlan plan c r
+stopped_reported plan stop log c r held reaches report =
+    inl (answer_to_stop log stop, due_by c.files.held plan (unit plan.options plan.file) (pp.refused stop log) _ held (reaches_comes c.files c.files' _ _ _ reaches refl) (stop_answer plan.mode (record { stop = stop; log = log })), report)
 
-longer_is : (n : ℕ) → n < length (longer n)
-unfolding longer
-longer_is zero = omega arith
-longer_is (suc n) = omega (arith, longer_is n)
+held_stop : (told : Option Held) (plan : Plan) (error : PrepError) (stop : Stop) (log : Log) → ((held : Held) → pp.IsDueStop (preprocessed held plan.options plan.file) error log → preprocessed held plan.options plan.file ≡ pp.refused stop log) → pp.IsDue told plan.options plan.file (Err error) log → (held : Held) → told ≡ Some held → preprocessed held plan.options plan.file ≡ pp.refused stop log
+held_stop None plan error stop log by due held e = absurd (let h : None ≡ Some held = e in cc)
+held_stop (Some h) plan error stop log by due held e = by held (subst (λ x. pp.IsDueStop (preprocessed x plan.options plan.file) error log) (let same : h ≡ held = cc in same) due)
 
-large_by : (told : Option Held) (name : List ℕ) → IsTooLarge told name → (held : Held) × AreHeld told held × IsAnswer (File name) held (Unreadable name)
-large_by None name large = (only name (longer max_file), tt, (TooLarge, verdict_on _ (longer max_file) TooLarge (under_only name (longer max_file)) (longer_is max_file), refl))
-large_by (Some held) name (bytes, stands, over) = (held, refl, (TooLarge, verdict_on _ bytes TooLarge stands over, refl))
+of_stop : (error : PrepError) (stop : Stop) (log : Log) (r : Report) → stop_of error ≡ Some stop → ReportsStop error log r → IsReport (answer_to_stop log stop) r
+of_stop error stop log r e (other, is, report) = subst (λ s. IsReport (answer_to_stop log s) r) (let both : Some other ≡ Some stop = sym is ∙ e in cc) report
 
-pub large_report : (name : List ℕ) (c : Call) (r : Report) → IsTooLarge c.files.held name → r.status ≡ status.ReadFault → r.out ≡ [] → r.err ≡ cannot_read_line name → ReportsFile name c r
-large_report name c r large = unreadable_report name c r (large_by c.files.held name large)
+pub stop_reported : (plan : Plan) (error : PrepError) (log : Log) (c : Call) (r : Report) → pp.IsDue c.files.held plan.options plan.file (Err error) log → pp.FailedRead c.files c.files' plan.options plan.file (Err error) log → Stops c.files c.files' (unit plan.options plan.file) error log → ReportsStop error log r → ReportsPlan plan c r
+stop_reported plan (prep_error.Fault fault) log c r due failed stops report =
+    stopped_reported plan (broken fault) log c r (held_stop c.files.held plan (prep_error.Fault fault) (broken fault) log (λ held is. is) due) stops (of_stop (prep_error.Fault fault) (broken fault) log r refl report)
+stop_reported plan (prep_error.Limit hit) log c r due failed stops report =
+    stopped_reported plan (passed hit) log c r (held_stop c.files.held plan (prep_error.Limit hit) (passed hit) log (λ held is. is) due) stops (of_stop (prep_error.Limit hit) (passed hit) log r refl report)
+stop_reported plan (prep_error.Read file cause.MainMissing) log c r due failed stops report =
+    stopped_reported plan (unread file cause.MainMissing) log c r (held_stop c.files.held plan (prep_error.Read file cause.MainMissing) (unread file cause.MainMissing) log (λ held is. is) due) stops (of_stop (prep_error.Read file cause.MainMissing) (unread file cause.MainMissing) log r refl report)
+stop_reported plan (prep_error.Read file cause.TooLarge) log c r due failed stops report =
+    stopped_reported plan (unread file cause.TooLarge) log c r (held_stop c.files.held plan (prep_error.Read file cause.TooLarge) (unread file cause.TooLarge) log (λ held is. is) due) stops (of_stop (prep_error.Read file cause.TooLarge) (unread file cause.TooLarge) log r refl report)
+stop_reported plan (prep_error.Read file cause.Failed) log c r due failed stops report =
+    inr (file, log, failed, of_stop (prep_error.Read file cause.Failed) (unread file cause.Failed) log r refl report)
+stop_reported plan prep_error.NoMemory log c r due failed stops (stop, is, report) = absurd (let h : None ≡ Some stop = is in cc)
 
-pub failed_report : (name : List ℕ) (c : Call) (r : Report) → ReadFailed c → r.status ≡ status.ReadFault → r.out ≡ [] → r.err ≡ cannot_read_line name → ReportsFile name c r
-failed_report name c r failed s o e = inr (failed, s, o, e)
+-- ---- each unit has a verdict, and each call an answer
 
--- each file has a verdict
-text_verdict : (large : Bool) (text : List ℕ) → nat_lt max_file (length text) ≡ large → (v : Verdict) × IsVerdictOn text v
-text_verdict true text test = (TooLarge, over max_file (length text) test)
-  where
-    over : (m n : ℕ) → nat_lt m n ≡ true → m < n
-    over m n h = grind (arith, nat_tests)
-text_verdict false text test = by (reader.read_unit (tokens text) (end_place text)) (reading_is_verdict text (within max_file (length text) test))
-  where
-    within : (m n : ℕ) → nat_lt m n ≡ false → n ≤ m
-    within m n h = grind (arith, nat_tests)
+reading_verdict : (tokens : List CTok) (end : Place) (r : reader.Reading) → ReadsAs tokens end r → (v : Verdict) × IsVerdictOn tokens end v
+reading_verdict tokens end (reader.Stops place) is = (NotBuilt place, is)
+reading_verdict tokens end (reader.Reads value) is = (IsCore (returning value is.0), is.1)
 
-    by : (r : reader.Reading) → ReadsAs text r → (v : Verdict) × IsVerdictOn text v
-    by (reader.Stops place) is = (NotBuilt place, is)
-    by (reader.Reads value) is = (IsCore (returning value is.0), is.1)
+converted_verdict : (converted : Result (List CTok) Fault) (end : Place) → (v : Verdict) × IsVerdictOf converted end v
+converted_verdict (Ok tokens) end = reading_verdict tokens end (reader.read_unit tokens end) (reading_is_verdict tokens end)
+converted_verdict (Err fault) end = (Stopped (broken fault), refl)
 
-found_verdict : (found : Option (List ℕ)) → (v : Verdict) × IsVerdictOf found v
-found_verdict None = (MainMissing, refl)
-found_verdict (Some text) = text_verdict (nat_lt max_file (length text)) text refl
+pub every_verdict : (done : Result Prepared Refusal) → (v : Verdict) × IsVerdict done v
+every_verdict (Ok unit) = converted_verdict (c_tokens_of unit.tokens) unit.end
+every_verdict (Err refusal) = (Stopped refusal.stop, refl)
 
-pub every_verdict : (held : Held) (name : List ℕ) → (v : Verdict) × IsVerdict held name v
-every_verdict held name = found_verdict (bytes_under held name)
+answer_in : (mode : Mode) (done : Result Prepared Refusal) → (due : Answer) × IsAnswerIn mode done due
+answer_in Expand done = (expanded done, refl)
+answer_in Translate done = let v = every_verdict done in (answer_to Translate (log_of done) v.0, (v.0, v.1, refl))
+answer_in Check done = let v = every_verdict done in (answer_to Check (log_of done) v.0, (v.0, v.1, refl))
 
--- some answer is due
-answer_for : (plan : Plan) (held : Held) → (due : Answer) × IsAnswer plan held due
-answer_for (Bad number) held = (Usage number, refl)
-answer_for (File name) held = let v = every_verdict held name in (answer_on name v.0, (v.0, v.1, refl))
+due_in : (told : Option Held) (plan : Plan) → (due : Answer) × IsDueIn told plan due
+due_in (Some held) plan = answer_in plan.mode (preprocessed held plan.options plan.file)
+due_in None plan = let done = some_done (unit plan.options plan.file) in let a = answer_in plan.mode done.0 in (a.0, (done.0, done.1, a.1))
 
-due_for : (told : Option Held) (plan : Plan) → (due : Answer) × (held : Held) × AreHeld told held × IsAnswer plan held due
-due_for None plan = let a = answer_for plan [] in (a.0, [], tt, a.1)
-due_for (Some held) plan = let a = answer_for plan held in (a.0, held, refl, a.1)
-
-pub some_due : (plan : Plan) (c : Call) → (due : Answer) × IsDue plan c due
-some_due plan c = let d = due_for c.files.held plan in (d.0, (d.1, d.2, d.3))
-
-usage_by : (told : Option Held) (number : ℕ) → (held : Held) × AreHeld told held × IsAnswer (Bad number) held (Usage number)
-usage_by None number = ([], tt, refl)
-usage_by (Some held) number = (held, refl, refl)
-
-pub usage_due : (number : ℕ) (c : Call) → IsDue (Bad number) c (Usage number)
-usage_due number c = usage_by c.files.held number
+pub some_due : (plan : Result Plan ℕ) (c : Call) → (due : Answer) × IsDue plan c due
+some_due (Ok plan) c = due_in c.files.held plan
+some_due (Err number) c = (Usage number, refl)

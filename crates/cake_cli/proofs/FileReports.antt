@@ -1,34 +1,24 @@
--- The report on the main file, by what its read gave.
-use Rattle.std.proofs.Common.{◌≡◌, ℕ, ◌≤◌, List, [], ◌++◌, length, Some, Result, Ok, Err, IfOk, sym, ap, ◌∙◌, subst}
-use Rattle.cake_base.specs.Counts.{Rose}
-use Rattle.cake_base.specs.Outside.{FilesView, SinkView, StandsUnder, IsMissing, IsTooLarge, max_file}
-use Rattle.c_model.specs.Answer.{cannot_read_line}
+-- The report of a plan, by what preprocessing answered.
+use Rattle.std.proofs.Common.{◌≡◌, ℕ, Result, Ok, Err, IfOk}
+use Rattle.cake_base.specs.Outside.{FilesView, SinkView}
+use Rattle.c_model.specs.PreprocessedUnit.{Prepared, unit}
+use Rattle.c_model.specs.Processes.{Log}
+use Rattle.c_model.specs.Words.{Plan}
+use Rattle.pp_directives.specs.declared.errors.PrepError.{PrepError}
+use Rattle.pp_directives.specs.Outcomes.{Runs}
+use Rattle.pp_directives.specs.Promise as pp
 use Rattle.cake_cli.specs.declared.report.Report.{Report}
-use Rattle.cake_cli.specs.declared.status.Status.TheVariants as status
-use Rattle.cake_cli.specs.Promise.{call_of}
-use Rattle.cake_cli.specs.Reports.{ReportsText, ReportsFile}
-use Rattle.cake_cli.proofs.DueReports.{file_report, missing_report, large_report, failed_report}
+use Rattle.cake_cli.specs.Call.{call_of}
+use Rattle.cake_cli.specs.Reports.{ReportsDone, ReportsStop, ReportsPlan}
+use Rattle.cake_cli.proofs.DueReports.{prepared_reported, stop_reported}
 
-abbrev pub Reported : List ℕ → FilesView → FilesView → Report → Type 0
-Reported name files files' r = (out out' err err' : SinkView) → ReportsFile name (call_of files files' out out' err err') r
+abbrev pub Reported : Plan → FilesView → FilesView → Report → Type 0
+Reported plan files files' r = (out out' err err' : SinkView) → ReportsPlan plan (call_of files files' out out' err err') r
 
--- the line on a file that can't be read
-abbrev pub IsUnread : {E : Type 0} → Result Report E → List ℕ → Type 0
-IsUnread result name = IfOk result (λ r. r.status ≡ status.ReadFault) × IfOk result (λ r. r.out ≡ []) × IfOk result (λ r. r.err ≡ cannot_read_line name)
+pub prepared_is_reported : {E : Type 0} (result : Result Report E) (plan : Plan) (prep : pp.Prep) (log : Log) (files files' : FilesView) → pp.IsDue files.held plan.options plan.file (Ok prep) log → Runs files files' (unit plan.options plan.file) (Ok {E = PrepError} prep) (pp.with_log log) log → IfOk result (ReportsDone plan.mode (Ok (pp.with_log log prep))) → IfOk result (Reported plan files files')
+prepared_is_reported (Ok r) plan prep log files files' due answered report = λ out out' err err'. prepared_reported plan prep log (call_of files files' out out' err err') r due answered report
+prepared_is_reported (Err e) plan prep log files files' due answered report = tt
 
-pub read_reported : {E : Type 0} (result : Result Report E) (name before after text : List ℕ) (files files' : FilesView) → before ≡ [] → text ≡ after → (bytes : List ℕ) × (after ≡ before ++ bytes) × (length bytes ≤ max_file) × StandsUnder files.held name (Some bytes) → IfOk result (ReportsText name text) → IfOk result (Reported name files files')
-read_reported (Ok r) name before after text files files' none same (bytes, is, size, stands) report = λ out out' err err'.
-    file_report name text (call_of files files' out out' err err') r (subst (λ t. StandsUnder files.held name (Some t)) (sym (same ∙ is ∙ ap (λ b. b ++ bytes) none)) stands) report
-read_reported (Err e) name before after text files files' none same given report = tt
-
-pub missing_reported : {E : Type 0} (result : Result Report E) (name : List ℕ) (files files' : FilesView) → IsMissing files.held name files.misses files'.misses → IsUnread result name → IfOk result (Reported name files files')
-missing_reported (Ok r) name files files' missing (s, o, e) = λ out out' err err'. missing_report name (call_of files files' out out' err err') r missing s o e
-missing_reported (Err x) name files files' missing u = tt
-
-pub large_reported : {E : Type 0} (result : Result Report E) (name : List ℕ) (files files' : FilesView) → IsTooLarge files.held name → IsUnread result name → IfOk result (Reported name files files')
-large_reported (Ok r) name files files' large (s, o, e) = λ out out' err err'. large_report name (call_of files files' out out' err err') r large s o e
-large_reported (Err x) name files files' large u = tt
-
-pub failed_reported : {E : Type 0} (result : Result Report E) (name : List ℕ) (files files' : FilesView) → Rose files.faults files'.faults → IsUnread result name → IfOk result (Reported name files files')
-failed_reported (Ok r) name files files' failed (s, o, e) = λ out out' err err'. failed_report name (call_of files files' out out' err err') r failed s o e
-failed_reported (Err x) name files files' failed u = tt
+pub stop_is_reported : {E : Type 0} (result : Result Report E) (plan : Plan) (error : PrepError) (log : Log) (files files' : FilesView) → pp.IsDue files.held plan.options plan.file (Err error) log → pp.FailedRead files files' plan.options plan.file (Err error) log → Runs files files' (unit plan.options plan.file) (Err {T = pp.Prep} error) (pp.with_log log) log → IfOk result (ReportsStop error log) → IfOk result (Reported plan files files')
+stop_is_reported (Ok r) plan error log files files' due failed answered report = λ out out' err err'. stop_reported plan error log (call_of files files' out out' err err') r due failed answered report
+stop_is_reported (Err e) plan error log files files' due failed answered report = tt

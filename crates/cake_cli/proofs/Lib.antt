@@ -1,6 +1,6 @@
-pub mod Lines
-pub mod Scanning
-pub mod DecimalConstants
+pub mod WordLaws
+pub mod PlanLaws
+pub mod SortLaws
 pub mod Steps
 pub mod Complete
 pub mod Sound

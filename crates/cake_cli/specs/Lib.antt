@@ -1,10 +1,12 @@
 pub mod Codes
-pub mod BadWord
-pub mod Blanks
-pub mod Scanned
+pub mod WordsRead
+pub mod Behind
+pub mod Sorts
+pub mod SortViews
 pub mod Reader
 pub mod Views
 pub mod ReadsAs
 pub mod Lowered
+pub mod Call
 pub mod Promise
 pub mod Reports

@@ -1,28 +1,21 @@
 -- What the command promises, in the terms that its clauses cite.
-use Rattle.std.specs.Prelude.{◌≡◌, ◌⊎◌, ℕ, List, Option, Some, None}
+use Rattle.std.specs.Prelude.{◌≡◌, ◌⊎◌, ℕ, List, [], Option, Some, None, Result, Ok, Err}
 use Rattle.cake_base.specs.Counts.{Rose}
-use Rattle.cake_base.specs.Outside.{Held, FilesView, SinkView, ReadKeeps, Appends, AppendsPrefix}
+use Rattle.cake_base.specs.Outside.{FilesView, SinkView, Appends, AppendsPrefix}
 use Rattle.c_model.specs.Core.{Core}
 use Rattle.c_model.specs.Program89.{Program}
 use Rattle.c_model.specs.Reading89.{Reads89}
 use Rattle.c_model.specs.Flat89.{Flat}
 use Rattle.c_model.specs.Translation.{Exports, Same}
-use Rattle.c_model.specs.Words.{Plan, File, Bad}
-use Rattle.c_model.specs.Answer.{Answer, Usage, Unreadable, Refused, Written, err_text, cannot_read_line, IsAnswer}
+use Rattle.c_model.specs.ExpandedText.{expanded_text}
+use Rattle.c_model.specs.Processes.{Log}
+use Rattle.c_model.specs.ReportLines.{name_in}
+use Rattle.c_model.specs.Words.{Plan}
+use Rattle.c_model.specs.Answer.{Delivery, AText, Tokens, NoText, Answer, Usage, Unreadable, Refused, Unbuilt, Limited, Written, err_text}
+use Rattle.pp_directives.specs.Promise.{Kept, FailsAt}
+use Rattle.cake_cli.specs.Call.{Call, IsDue}
 use Rattle.cake_cli.specs.declared.status.Status.{Status}
 use Rattle.cake_cli.specs.declared.status.Status.TheVariants as status
-
--- what files and sinks show before a call and after it
-pub record Call : Type 0 where
-  pub files : FilesView
-  pub files' : FilesView
-  pub out : SinkView
-  pub out' : SinkView
-  pub err : SinkView
-  pub err' : SinkView
-
-abbrev pub call_of : (files files' : FilesView) → (out out' err err' : SinkView) → Call
-call_of files files' out out' err err' = record { files = files; files' = files'; out = out; out' = out'; err = err; err' = err' }
 
 -- counts of faults that rose in the call
 abbrev pub ReadFailed : Call → Type 0
@@ -53,47 +46,50 @@ PutsPrefixOnOut text c = AppendsPrefix text c.out c.out'
 abbrev pub PutsPrefixOnErr : List ℕ → Call → Type 0
 PutsPrefixOnErr text c = AppendsPrefix text c.err c.err'
 
--- these are the files that are held, where that is told
-abbrev pub AreHeld : Option Held → Held → Type 0
-AreHeld None held = Unit {0}
-AreHeld (Some told) held = held ≡ told
-
--- the answer that words and files determine; where the files don't tell what they hold, one that they
--- would determine for some files
-abbrev pub IsDue : Plan → Call → Answer → Type 0
-IsDue plan c due = (held : Held) × AreHeld c.files.held held × IsAnswer plan held due
-
-abbrev pub ForDue : Plan → Call → (Answer → Type 0) → Type 0
+-- the answer that words and files determine has this
+abbrev pub ForDue : Result Plan ℕ → Call → (Answer → Type 0) → Type 0
 ForDue plan c P = (due : Answer) × IsDue plan c due × P due
 
 -- the words have a reading, or none
-abbrev pub AreRead : Plan → Type 0
-AreRead (File name) = Unit {0}
-AreRead (Bad number) = ⊥
+abbrev pub AreRead : Result Plan ℕ → Type 0
+AreRead (Ok plan) = Unit {0}
+AreRead (Err number) = ⊥
 
-abbrev pub AreBad : Plan → Type 0
-AreBad (File name) = ⊥
-AreBad (Bad number) = Unit {0}
+abbrev pub AreBad : Result Plan ℕ → Type 0
+AreBad (Ok plan) = ⊥
+AreBad (Err number) = Unit {0}
 
 -- kinds of answers
 abbrev pub IsWritten : Answer → Type 0
-IsWritten due = (core : Core) × (due ≡ Written core)
+IsWritten due = (log : Log) × (delivery : Delivery) × (due ≡ Written log delivery)
 
 abbrev pub IsRefused : Answer → Type 0
-IsRefused (Refused name place) = Unit {0}
+IsRefused (Refused log fault) = Unit {0}
+IsRefused (Unbuilt log place) = Unit {0}
 IsRefused (Usage number) = ⊥
-IsRefused (Unreadable name) = ⊥
-IsRefused (Written core) = ⊥
+IsRefused (Unreadable log name) = ⊥
+IsRefused (Limited log hit) = ⊥
+IsRefused (Written log delivery) = ⊥
 
 abbrev pub IsUnreadable : Answer → Type 0
-IsUnreadable (Unreadable name) = Unit {0}
+IsUnreadable (Unreadable log name) = Unit {0}
 IsUnreadable (Usage number) = ⊥
-IsUnreadable (Refused name place) = ⊥
-IsUnreadable (Written core) = ⊥
+IsUnreadable (Refused log fault) = ⊥
+IsUnreadable (Unbuilt log place) = ⊥
+IsUnreadable (Limited log hit) = ⊥
+IsUnreadable (Written log delivery) = ⊥
+
+abbrev pub IsLimited : Answer → Type 0
+IsLimited (Limited log hit) = Unit {0}
+IsLimited (Usage number) = ⊥
+IsLimited (Unreadable log name) = ⊥
+IsLimited (Refused log fault) = ⊥
+IsLimited (Unbuilt log place) = ⊥
+IsLimited (Written log delivery) = ⊥
 
 -- a status that may come in place of the one that is due: memory is free where the words have a reading,
 -- and a fault where its count rose
-abbrev pub IsExcused : Status → Plan → Call → Type 0
+abbrev pub IsExcused : Status → Result Plan ℕ → Call → Type 0
 IsExcused status.NoMemory plan c = AreRead plan
 IsExcused status.ReadFault plan c = AreRead plan × ReadFailed c
 IsExcused status.WriteFault plan c = ErrFailed c ⊎ OutFailed c
@@ -114,29 +110,36 @@ pub record Delivers (core : Core) (text : List ℕ) : Type 0 where
   pub exports : Exports core program
   pub same : Same core program
 
--- a text of the unit was put on out
-abbrev pub PutsProgram : Answer → Call → Type 0
-PutsProgram due c = (core : Core) × (due ≡ Written core) × (text : List ℕ) × Delivers core text × PutsOnOut text c
+-- a text that out may get
+abbrev pub IsDelivered : Delivery → List ℕ → Type 0
+IsDelivered (AText core) text = Delivers core text
+IsDelivered (Tokens tokens) text = text ≡ expanded_text tokens
+IsDelivered NoText text = text ≡ []
 
--- a text that err may get: that of the due answer, or the line on a read that failed
-abbrev pub IsErrText : Plan → Answer → Call → List ℕ → Type 0
-IsErrText plan due c text = (text ≡ err_text due) ⊎ (ReadFailed c × (name : List ℕ) × (plan ≡ File name) × (text ≡ cannot_read_line name))
+-- a text of what is written was put on out
+abbrev pub PutsText : Answer → Call → Type 0
+PutsText due c = (log : Log) × (delivery : Delivery) × (due ≡ Written log delivery) × (text : List ℕ) × IsDelivered delivery text × PutsOnOut text c
+
+-- the text on a read that failed: the notes that stand where it fails, and the line with the name of its file
+abbrev pub IsFailedText : Result Plan ℕ → Call → List ℕ → Type 0
+IsFailedText (Ok plan) c text = (file : ℕ) × (log : Log) × FailsAt c.files c.files' plan.options plan.file file log × (text ≡ err_text (Unreadable log (name_in log file)))
+IsFailedText (Err number) c text = ⊥
 
 -- what err gets
-abbrev pub ErrGets : Status → Plan → Answer → Call → Type 0
+abbrev pub ErrGets : Status → Result Plan ℕ → Answer → Call → Type 0
 ErrGets status.Written plan due c = PutsOnErr (err_text due) c
 ErrGets status.Refused plan due c = PutsOnErr (err_text due) c
 ErrGets status.Usage plan due c = PutsOnErr (err_text due) c
 ErrGets status.Limit plan due c = PutsOnErr (err_text due) c
-ErrGets status.ReadFault plan due c = (name : List ℕ) × (plan ≡ File name) × PutsOnErr (cannot_read_line name) c
-ErrGets status.WriteFault plan due c = (text : List ℕ) × IsErrText plan due c text × PutsPrefixOnErr text c
+ErrGets status.ReadFault plan due c = (IsUnreadable due × PutsOnErr (err_text due) c) ⊎ ((text : List ℕ) × IsFailedText plan c text × PutsOnErr text c)
+ErrGets status.WriteFault plan due c = (text : List ℕ) × ((text ≡ err_text due) ⊎ IsFailedText plan c text) × PutsPrefixOnErr text c
 ErrGets status.NoMemory plan due c = NothingOnErr c
 
--- a put failed: that on err, and out got nothing; or that on out, of a unit's text, and err got its whole text
-abbrev pub PutFailed : Plan → Answer → Call → Type 0
-PutFailed plan due c =
+-- a put failed: that on err, and out got nothing; or that on out, of what is written, and err got its whole text
+abbrev pub PutFailed : Answer → Call → Type 0
+PutFailed due c =
     (ErrFailed c × NothingOnOut c)
-    ⊎ (OutFailed c × PutsOnErr (err_text due) c × (core : Core) × (due ≡ Written core) × (text : List ℕ) × Delivers core text × PutsPrefixOnOut text c)
+    ⊎ (OutFailed c × PutsOnErr (err_text due) c × (log : Log) × (delivery : Delivery) × (due ≡ Written log delivery) × (text : List ℕ) × IsDelivered delivery text × PutsPrefixOnOut text c)
 
 -- no count of faults rose
 pub record NoFault (c : Call) : Type 0 where
@@ -144,7 +147,7 @@ pub record NoFault (c : Call) : Type 0 where
   pub out : OutFailed c → ⊥
   pub err : ErrFailed c → ⊥
 
--- the files were read once, where the words name one, and else weren't asked
-abbrev pub Reads : Plan → Call → Type 0
-Reads (File name) c = ReadKeeps c.files c.files'
-Reads (Bad number) c = c.files' ≡ c.files
+-- the files hold what they held, where the words have a reading, and else weren't asked
+abbrev pub Reads : Result Plan ℕ → Call → Type 0
+Reads (Ok plan) c = Kept c.files c.files'
+Reads (Err number) c = c.files' ≡ c.files

@@ -1,28 +1,12 @@
 -- The reader's steps over the tokens of a unit, from the left.
-use Rattle.std.specs.Prelude.{ℕ, zero, suc, ◌+◌, ◌-◌, ◌*◌, pos, Bool, false, ◌&&◌, ◌==◌, nat_le, List, [], ◌∷◌, ◌++◌, codes, Option, Some, None, if◌then◌else◌}
-use Rattle.std.specs.Str.{bytes_eq}
+use Rattle.std.specs.Prelude.{ℕ, ◌+◌, pos, ◌==◌, List, [], ◌∷◌, Option, Some, None, if◌then◌else◌}
 use Rattle.cake_base.specs.declared.places.Place.{Place}
 use Rattle.c_model.specs.declared.numbers.BinOp.{BinOp}
-use Rattle.c_model.specs.declared.numbers.BinOp.TheVariants.{Mul, Add, Sub}
+use Rattle.c_model.specs.declared.numbers.BinOp.TheVariants.{Mul}
+use Rattle.c_model.specs.declared.tokens.CTok.{CTok}
 use Rattle.c_model.specs.Core.{Expr}
-use Rattle.c_model.specs.FirstTokens.{Token, is_digit}
-use Rattle.c_model.specs.FirstUnit.{head_words, int_constant, int_operation}
-
--- the value of digits behind a number, up to the greatest int
-abbrev pub number_from : ℕ → List ℕ → Option ℕ
-number_from number [] = Some number
-number_from number (byte ∷ bytes) =
-    if is_digit byte && nat_le (10 * number + (byte - 48)) 2147483647 then number_from (10 * number + (byte - 48)) bytes else None
-
-abbrev pub constant_of : List ℕ → Option ℕ
-constant_of [] = None
-constant_of (byte ∷ []) = number_from 0 (byte ∷ [])
-constant_of (byte ∷ next ∷ bytes) = if byte == 48 then None else number_from 0 (byte ∷ next ∷ bytes)
-
-abbrev pub sign_of : List ℕ → Option BinOp
-sign_of text =
-    if bytes_eq text (codes "*") then Some Mul
-    else (if bytes_eq text (codes "+") then Some Add else (if bytes_eq text (codes "-") then Some Sub else None))
+use Rattle.c_model.specs.FirstUnit.{int_constant, int_operation}
+use Rattle.cake_cli.specs.Sorts.{Sort, IntWord, MainName, OpenParenthesis, VoidWord, CloseParenthesis, OpenBrace, ReturnWord, Constant, Sign, Semicolon, CloseBrace, Other, sort_of}
 
 -- a left operand that waits for its right one
 pub record Waiting : Type 0 where
@@ -54,14 +38,20 @@ pub data Stage : Type 0 where
   Tail : (value : Expr) → Stage
   Whole : (value : Expr) → Stage
 
--- the words before the expression
-abbrev pub front_words : List (List ℕ)
-front_words = head_words ++ codes "return" ∷ []
-
-abbrev pub is_word_at : List (List ℕ) → ℕ → List ℕ → Bool
-is_word_at [] count text = false
-is_word_at (word ∷ words) zero text = bytes_eq word text
-is_word_at (word ∷ words) (suc count) text = is_word_at words count text
+-- the rank of a word before the expression; 7 where it is none
+abbrev pub front_rank : Sort → ℕ
+front_rank IntWord = 0
+front_rank MainName = 1
+front_rank OpenParenthesis = 2
+front_rank VoidWord = 3
+front_rank CloseParenthesis = 4
+front_rank OpenBrace = 5
+front_rank ReturnWord = 6
+front_rank (Constant number) = 7
+front_rank (Sign op) = 7
+front_rank Semicolon = 7
+front_rank CloseBrace = 7
+front_rank Other = 7
 
 -- behind one more word of the front
 abbrev pub past_word : ℕ → Stage
@@ -88,25 +78,61 @@ abbrev pub past_end : Expr → Open → List Open → Option Stage
 past_end operand here [] = Some (Tail (closed here operand))
 past_end operand here (next ∷ outer) = None
 
-abbrev pub past_constant : Option ℕ → Place → Open → List Open → Option Stage
-past_constant None place here outer = None
-past_constant (Some number) place here outer = Some (Operator (int_constant (pos number) place) here outer)
+-- where an operand is wanted
+abbrev pub past_begin : Sort → Place → Open → List Open → Option Stage
+past_begin OpenParenthesis place here outer = Some (Operand nothing_open (here ∷ outer))
+past_begin (Constant number) place here outer = Some (Operator (int_constant (pos number) place) here outer)
+past_begin IntWord place here outer = None
+past_begin MainName place here outer = None
+past_begin VoidWord place here outer = None
+past_begin CloseParenthesis place here outer = None
+past_begin OpenBrace place here outer = None
+past_begin ReturnWord place here outer = None
+past_begin (Sign op) place here outer = None
+past_begin Semicolon place here outer = None
+past_begin CloseBrace place here outer = None
+past_begin Other place here outer = None
 
-abbrev pub past_operand : Option BinOp → Token → Expr → Open → List Open → Option Stage
-past_operand (Some op) token operand here outer = Some (past_sign op token.place operand here outer)
-past_operand None token operand here outer =
-    if bytes_eq token.text (codes ")") then past_close operand here outer
-    else (if bytes_eq token.text (codes ";") then past_end operand here outer else None)
+-- behind an operand
+abbrev pub past_operand : Sort → Place → Expr → Open → List Open → Option Stage
+past_operand (Sign op) place operand here outer = Some (past_sign op place operand here outer)
+past_operand CloseParenthesis place operand here outer = past_close operand here outer
+past_operand Semicolon place operand here outer = past_end operand here outer
+past_operand IntWord place operand here outer = None
+past_operand MainName place operand here outer = None
+past_operand OpenParenthesis place operand here outer = None
+past_operand VoidWord place operand here outer = None
+past_operand OpenBrace place operand here outer = None
+past_operand ReturnWord place operand here outer = None
+past_operand (Constant number) place operand here outer = None
+past_operand CloseBrace place operand here outer = None
+past_operand Other place operand here outer = None
+
+-- behind the semicolon
+abbrev pub past_tail : Sort → Expr → Option Stage
+past_tail CloseBrace value = Some (Whole value)
+past_tail IntWord value = None
+past_tail MainName value = None
+past_tail OpenParenthesis value = None
+past_tail VoidWord value = None
+past_tail CloseParenthesis value = None
+past_tail OpenBrace value = None
+past_tail ReturnWord value = None
+past_tail (Constant number) value = None
+past_tail (Sign op) value = None
+past_tail Semicolon value = None
+past_tail Other value = None
 
 -- behind one more token, where the unit can go on with it
-abbrev pub read_token : Stage → Token → Option Stage
-read_token (Front count) token = if is_word_at front_words count token.text then Some (past_word count) else None
-read_token (Operand here outer) token =
-    if bytes_eq token.text (codes "(") then Some (Operand nothing_open (here ∷ outer))
-    else past_constant (constant_of token.text) token.place here outer
-read_token (Operator operand here outer) token = past_operand (sign_of token.text) token operand here outer
-read_token (Tail value) token = if bytes_eq token.text (codes "}") then Some (Whole value) else None
-read_token (Whole value) token = None
+abbrev pub read_sort : Stage → Sort → Place → Option Stage
+read_sort (Front count) sort place = if front_rank sort == count then Some (past_word count) else None
+read_sort (Operand here outer) sort place = past_begin sort place here outer
+read_sort (Operator operand here outer) sort place = past_operand sort place operand here outer
+read_sort (Tail value) sort place = past_tail sort value
+read_sort (Whole value) sort place = None
+
+abbrev pub read_token : Stage → CTok → Option Stage
+read_token stage token = read_sort stage (sort_of token.kind) token.place
 
 -- what reading gives: the place of the token with which the unit can't go on, or its value
 pub data Reading : Type 0 where
@@ -125,12 +151,12 @@ abbrev pub on_stage : Option Stage → Place → (Stage → Reading) → Reading
 on_stage None place next = Stops place
 on_stage (Some stage) place next = next stage
 
--- reads the tokens, of which the hundred and first is too many
-abbrev pub read_from : Stage → List Token → (end : Place) → Reading
-read_from stage [] end = at_end stage end
-read_from stage (token ∷ tokens) end =
-    if token.place.order == 100 then Stops token.place
-    else on_stage (read_token stage token) token.place (λ next. read_from next tokens end)
+-- reads the tokens from a rank on, of which the hundred and first is too many
+abbrev pub read_from : Stage → (rank : ℕ) → List CTok → (end : Place) → Reading
+read_from stage rank [] end = at_end stage end
+read_from stage rank (token ∷ tokens) end =
+    if rank == 100 then Stops token.place
+    else on_stage (read_token stage token) token.place (λ next. read_from next (rank + 1) tokens end)
 
-abbrev pub read_unit : List Token → (end : Place) → Reading
-read_unit tokens end = read_from (Front 0) tokens end
+abbrev pub read_unit : List CTok → (end : Place) → Reading
+read_unit tokens end = read_from (Front 0) 0 tokens end

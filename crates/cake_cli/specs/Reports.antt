@@ -1,26 +1,40 @@
 -- What is put, before it is put, and how a call comes out.
-use Rattle.std.specs.Prelude.{◌≡◌, ◌≢◌, ◌⊎◌, ℕ, List, []}
-use Rattle.c_model.specs.Verdict.{Verdict, IsVerdictOn}
-use Rattle.c_model.specs.Words.{Plan, File}
-use Rattle.c_model.specs.Answer.{Answer, Usage, Unreadable, Refused, Written, err_text, answer_on, cannot_read_line}
+use Rattle.std.specs.Prelude.{◌≡◌, ◌≢◌, ◌⊎◌, ℕ, List, [], Option, Some, None, Result, Ok, Err}
+use Rattle.c_model.specs.declared.tokens.CTok.{CTok}
+use Rattle.cake_base.specs.declared.places.Place.{Place}
+use Rattle.c_model.specs.declared.words.Mode.{Mode}
+use Rattle.c_model.specs.PreprocessedUnit.{Prepared}
+use Rattle.c_model.specs.Processes.{Stop, broken, passed, unread, Log, Refusal}
+use Rattle.c_model.specs.ReportLines.{name_in}
+use Rattle.c_model.specs.Verdict.{Verdict, IsVerdictOn, IsVerdict}
+use Rattle.c_model.specs.Words.{Plan}
+use Rattle.c_model.specs.Answer.{Answer, Usage, Unreadable, Refused, Unbuilt, Limited, Written, err_text, answer_to_stop, answer_to, IsAnswerIn}
+use Rattle.pp_directives.specs.declared.errors.PrepError.{PrepError}
+use Rattle.pp_directives.specs.declared.errors.PrepError.TheVariants as prep_error
+use Rattle.pp_directives.specs.Promise.{FailsAt}
 use Rattle.cake_cli.specs.declared.status.Status.{Status}
 use Rattle.cake_cli.specs.declared.status.Status.TheVariants as status
 use Rattle.cake_cli.specs.declared.report.Report.{Report}
-use Rattle.cake_cli.specs.Promise.{Call, ReadFailed, OutFailed, ErrFailed, NothingOnOut, NothingOnErr, PutsOnOut, PutsOnErr, PutsPrefixOnOut, PutsPrefixOnErr, Delivers, IsDue}
+use Rattle.cake_cli.specs.Call.{Call, IsDue}
+use Rattle.cake_cli.specs.Promise.{OutFailed, ErrFailed, NothingOnOut, NothingOnErr, PutsOnOut, PutsOnErr, PutsPrefixOnOut, PutsPrefixOnErr, IsDelivered}
 
 -- the status of an answer
 abbrev pub status_of : Answer → Status
 status_of (Usage number) = status.Usage
-status_of (Unreadable name) = status.ReadFault
-status_of (Refused name place) = status.Refused
-status_of (Written core) = status.Written
+status_of (Unreadable log name) = status.ReadFault
+status_of (Refused log fault) = status.Refused
+status_of (Unbuilt log place) = status.Refused
+status_of (Limited log hit) = status.Limit
+status_of (Written log delivery) = status.Written
 
 -- what an answer puts on out
 abbrev pub IsOutText : Answer → List ℕ → Type 0
 IsOutText (Usage number) text = text ≡ []
-IsOutText (Unreadable name) text = text ≡ []
-IsOutText (Refused name place) text = text ≡ []
-IsOutText (Written core) text = Delivers core text
+IsOutText (Unreadable log name) text = text ≡ []
+IsOutText (Refused log fault) text = text ≡ []
+IsOutText (Unbuilt log place) text = text ≡ []
+IsOutText (Limited log hit) text = text ≡ []
+IsOutText (Written log delivery) text = IsDelivered delivery text
 
 -- the report of an answer
 pub record IsReport (due : Answer) (r : Report) : Type 0 where
@@ -28,15 +42,35 @@ pub record IsReport (due : Answer) (r : Report) : Type 0 where
   pub out : IsOutText due r.out
   pub err : r.err ≡ err_text due
 
--- the report on the bytes of a file
-abbrev pub ReportsText : (name text : List ℕ) → Report → Type 0
-ReportsText name text r = (verdict : Verdict) × IsVerdictOn text verdict × IsReport (answer_on name verdict) r
+-- the report on tokens of C, and on a unit that is preprocessed
+abbrev pub ReportsTokens : Mode → Log → List CTok → (end : Place) → Report → Type 0
+ReportsTokens mode log tokens end r = (verdict : Verdict) × IsVerdictOn tokens end verdict × IsReport (answer_to mode log verdict) r
 
--- the report on the main file, or on its read that failed
-abbrev pub ReportsFile : (name : List ℕ) → Call → Report → Type 0
-ReportsFile name c r =
-    ((due : Answer) × IsDue (File name) c due × IsReport due r)
-    ⊎ (ReadFailed c × (r.status ≡ status.ReadFault) × (r.out ≡ []) × (r.err ≡ cannot_read_line name))
+abbrev pub ReportsUnit : Mode → Log → Prepared → Report → Type 0
+ReportsUnit mode log unit r = (verdict : Verdict) × IsVerdict (Ok unit) verdict × IsReport (answer_to mode log verdict) r
+
+abbrev pub ReportsDone : Mode → Result Prepared Refusal → Report → Type 0
+ReportsDone mode done r = (due : Answer) × IsAnswerIn mode done due × IsReport due r
+
+-- why preprocessing ended, where memory wasn't wanted
+abbrev pub stop_of : PrepError → Option Stop
+stop_of (prep_error.Fault fault) = Some (broken fault)
+stop_of (prep_error.Limit hit) = Some (passed hit)
+stop_of (prep_error.Read file why) = Some (unread file why)
+stop_of prep_error.NoMemory = None
+
+abbrev pub ReportsStop : PrepError → Log → Report → Type 0
+ReportsStop error log r = (stop : Stop) × (stop_of error ≡ Some stop) × IsReport (answer_to_stop log stop) r
+
+-- the report on a read that failed
+abbrev pub unread_answer : Log → (file : ℕ) → Answer
+unread_answer log file = Unreadable log (name_in log file)
+
+-- the report of a plan: that of the answer that is due, or on a read that failed
+abbrev pub ReportsPlan : Plan → Call → Report → Type 0
+ReportsPlan plan c r =
+    ((due : Answer) × IsDue (Ok plan) c due × IsReport due r)
+    ⊎ ((file : ℕ) × (log : Log) × FailsAt c.files c.files' plan.options plan.file file log × IsReport (unread_answer log file) r)
 
 -- both texts were put, err's first, or a put failed
 pub data Sent (wanted : Status) (out_text err_text : List ℕ) (c : Call) (result : Status) : Type 0 where
@@ -44,8 +78,8 @@ pub data Sent (wanted : Status) (out_text err_text : List ℕ) (c : Call) (resul
   err_failed : result ≡ status.WriteFault → ErrFailed c → PutsPrefixOnErr err_text c → NothingOnOut c → Sent wanted out_text err_text c result
   out_failed : result ≡ status.WriteFault → OutFailed c → PutsOnErr err_text c → PutsPrefixOnOut out_text c → out_text ≢ [] → Sent wanted out_text err_text c result
 
--- the answer that is due was sent, memory was wanted, or the read of the main file failed
-pub data Outcome (plan : Plan) (due : Answer) (c : Call) (result : Status) : Type 0 where
+-- the answer that is due was sent, memory was wanted, or a read failed
+pub data Outcome (plan : Result Plan ℕ) (due : Answer) (c : Call) (result : Status) : Type 0 where
   as_due : (text : List ℕ) → IsOutText due text → Sent (status_of due) text (err_text due) c result → Outcome plan due c result
-  no_memory : (name : List ℕ) → plan ≡ File name → result ≡ status.NoMemory → NothingOnOut c → NothingOnErr c → Outcome plan due c result
-  failed_read : (name : List ℕ) → plan ≡ File name → ReadFailed c → Sent status.ReadFault [] (cannot_read_line name) c result → Outcome plan due c result
+  no_memory : (p : Plan) → plan ≡ Ok p → result ≡ status.NoMemory → NothingOnOut c → NothingOnErr c → Outcome plan due c result
+  failed_read : (p : Plan) → plan ≡ Ok p → (file : ℕ) (log : Log) → FailsAt c.files c.files' p.options p.file file log → Sent status.ReadFault [] (err_text (unread_answer log file)) c result → Outcome plan due c result

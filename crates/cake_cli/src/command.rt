@@ -1,15 +1,19 @@
 //! The command: its words, its files and its two sinks, to a status.
-ghost use Rattle.std.specs.Prelude.{◌≡◌, ◌≢◌, ◌⊎◌, map, string_bytes, IfOk};
+ghost use Rattle.std.specs.Prelude.{◌≡◌, ◌≢◌, ◌⊎◌, ◌<◌, map, length, string_bytes, IfOk};
+ghost use Rattle.cake_base.specs.Outside.{FilesView, SinkView};
+ghost use Rattle.c_model.specs.PreprocessedUnit.{command_lines};
 ghost use Rattle.c_model.specs.Words.{plan};
-ghost use Rattle.c_model.specs.Answer.{Answer};
-ghost use Rattle.cake_cli.specs.Promise.{call_of, IsDue, ForDue, AreRead, AreBad, IsWritten, IsRefused, IsUnreadable, IsExcused, Exactly, PutsProgram, ErrGets, PutFailed, ReadFailed, NothingOnOut, NothingOnErr, NoFault, Reads};
-ghost use Rattle.cake_cli.specs.Reports.{ReportsFile, Sent, Outcome};
-ghost use Rattle.cake_base.specs.Outside.{FilesView, SinkView, ReadKeeps};
+ghost use Rattle.pp_directives.specs.Promise.{Kept};
+ghost use Rattle.cake_cli.specs.Call.{call_of};
+ghost use Rattle.cake_cli.specs.Promise.{ForDue, AreRead, AreBad, IsWritten, IsRefused, IsUnreadable, IsLimited, IsExcused, Exactly, PutsText, ErrGets, PutFailed, ReadFailed, NothingOnOut, NothingOnErr, NoFault, Reads};
+ghost use Rattle.cake_cli.specs.Reports.{ReportsPlan, Sent, Outcome};
+ghost use Rattle.cake_cli.specs.WordsRead.{plan_as};
 
-use crate::report::{Report, report_on, unreadable};
+use crate::report::{Report, report_prepared, report_stop};
 use crate::status::Status;
-use crate::words::{read_words, usage_line};
-use cake_base::{Files, NoMemory, ReadFault, Sink};
+use crate::words::{Plan, WordsError, read_words, usage_line};
+use cake_base::{Files, NoMemory, Sink};
+use pp_directives::{PrepLog, preprocess};
 use std::alloc::Global;
 
 /// Puts the text on err and then that on out, where they aren't empty.
@@ -31,18 +35,21 @@ fn deliver<O: Sink, E: Sink>(
     status
 }
 
-/// Reads the main file and makes its report.
-fn read_report<F: Files>(alloc: Global, name: &str, files: &mut F) -> Result<Report, NoMemory>
-    ensures report { IfOk result (λ r. (out out' err err' : SinkView) → ReportsFile name.now (call_of (F.shows files.old) (F.shows files.new) out out' err err') r) }
-    ensures reads { ReadKeeps (F.shows files.old) (F.shows files.new) }
+/// Preprocesses the unit and makes its report.
+fn report<F: Files>(
+    alloc: Global,
+    plan: &Plan,
+    name: &str,
+    files: &mut F,
+) -> Result<Report, NoMemory>
+    requires { length (command_lines plan.now.options.defines) < 4294967295 }
+    ensures report { IfOk result (λ r. (out out' err err' : SinkView) → ReportsPlan (plan_as plan.now name.now) (call_of (F.shows files.old) (F.shows files.new) out out' err err') r) }
+    ensures reads { Kept (F.shows files.old) (F.shows files.new) }
 {
-    let mut text = Vec::new(alloc);
-    match files.read(alloc, name, &mut text) {
-        Ok(()) => report_on(alloc, name, &text),
-        Err(ReadFault::NoMemory) => Err(NoMemory),
-        Err(ReadFault::Missing) => unreadable(alloc, name),
-        Err(ReadFault::TooLarge) => unreadable(alloc, name),
-        Err(ReadFault::Failed) => unreadable(alloc, name),
+    let mut log = PrepLog::new(alloc);
+    match preprocess(alloc, files, &plan.options, name, &mut log) {
+        Ok(prep) => report_prepared(alloc, plan.mode, &log, &prep),
+        Err(error) => report_stop(alloc, &log, error),
     }
 }
 
@@ -59,11 +66,19 @@ fn run<F: Files, O: Sink, E: Sink>(
         ForDue p c (λ due. Outcome p due c result) }
     ensures reads { Reads (plan (map string_bytes words.now)) (call_of (F.shows files.old) (F.shows files.new) (O.shows out.old) (O.shows out.new) (E.shows err.old) (E.shows err.new)) }
 {
-    let name = match read_words(words) {
-        Ok(name) => name,
-        Err(error) => return deliver(Status::Usage, b"", usage_line(error.number()), out, err),
+    let plan = match read_words(alloc, words) {
+        Ok(plan) => plan,
+        Err(WordsError::Bad(number)) => {
+            let line = usage_line(number);
+            return deliver(Status::Usage, b"", line.as_str().as_bytes(), out, err);
+        }
+        Err(WordsError::NoMemory) => return Status::NoMemory,
     };
-    match read_report(alloc, name, files) {
+    let name = match &plan.file {
+        Some(name) => name.as_str(),
+        None => unreachable!(),
+    };
+    match report(alloc, &plan, name, files) {
         Ok(report) => deliver(
             report.status,
             report.out.as_slice(),
@@ -75,13 +90,14 @@ fn run<F: Files, O: Sink, E: Sink>(
     }
 }
 
-/// The command: reads its words, reads the file that they name, and puts a text on err and then
-/// one on out.
+/// The command: reads its words, preprocesses the unit of the file that they name, and puts a text on
+/// err and then one on out.
 ///
-/// Answers as `Status` says. The text on out, where it answers `Written`, is a C89 program
-/// (ISO/IEC 9899:1990) that behaves as the C23 unit in the file (ISO/IEC 9899:2024), wherever that
-/// has a defined behaviour. It takes memory only where the words have a reading, and none once its
-/// texts are built.
+/// Answers as `Status` says. The text on out, where it answers `Written` without `-E` or `--check`, is
+/// a C89 program (ISO/IEC 9899:1990) that behaves as the C23 unit of the file and its headers
+/// (ISO/IEC 9899:2024), wherever that has a defined behaviour; with `-E` it is the preprocessed
+/// tokens, and with `--check` there is none. It takes memory only where the words have a reading, and
+/// none once its texts are built.
 pub fn cake<F: Files, O: Sink, E: Sink>(
     alloc: Global,
     words: &[String],
@@ -89,9 +105,10 @@ pub fn cake<F: Files, O: Sink, E: Sink>(
     out: &mut O,
     err: &mut E,
 ) -> Status
-    // A text that reads as a flat C89 program, exports what the unit defines and runs as it does.
+    // A text that reads as a flat C89 program, exports what the unit defines and runs as it does; or that of
+    // the preprocessed tokens; or none.
     ensures written { let c = call_of (F.shows files.old) (F.shows files.new) (O.shows out.old) (O.shows out.new) (E.shows err.old) (E.shows err.new) in let p = plan (map string_bytes words.now) in
-        result ≡ Status.Written → ForDue p c (λ due. PutsProgram due c) }
+        result ≡ Status.Written → ForDue p c (λ due. PutsText due c) }
 
     // What err gets: the text of the answer that is due, or nothing, or a prefix.
     ensures err { let c = call_of (F.shows files.old) (F.shows files.new) (O.shows out.old) (O.shows out.new) (E.shows err.old) (E.shows err.new) in let p = plan (map string_bytes words.now) in
@@ -105,12 +122,13 @@ pub fn cake<F: Files, O: Sink, E: Sink>(
     ensures read_fault { let c = call_of (F.shows files.old) (F.shows files.new) (O.shows out.old) (O.shows out.new) (E.shows err.old) (E.shows err.new) in let p = plan (map string_bytes words.now) in
         ForDue p c (λ due. (result ≡ Status.ReadFault → IsUnreadable due ⊎ (AreRead p × ReadFailed c)) × (IsUnreadable due → (result ≡ Status.ReadFault) ⊎ IsExcused result p c)) }
     ensures write_fault { let c = call_of (F.shows files.old) (F.shows files.new) (O.shows out.old) (O.shows out.new) (E.shows err.old) (E.shows err.new) in let p = plan (map string_bytes words.now) in
-        result ≡ Status.WriteFault → ForDue p c (λ due. PutFailed p due c) }
+        result ≡ Status.WriteFault → ForDue p c (λ due. PutFailed due c) }
     ensures no_memory { let c = call_of (F.shows files.old) (F.shows files.new) (O.shows out.old) (O.shows out.new) (E.shows err.old) (E.shows err.new) in let p = plan (map string_bytes words.now) in
         result ≡ Status.NoMemory → AreRead p × NothingOnOut c × NothingOnErr c }
-    ensures limit { result ≢ Status.Limit }
+    ensures limit { let c = call_of (F.shows files.old) (F.shows files.new) (O.shows out.old) (O.shows out.new) (E.shows err.old) (E.shows err.new) in let p = plan (map string_bytes words.now) in
+        ForDue p c (λ due. Exactly (result ≡ Status.Limit) (IsLimited due) (IsExcused result p c)) }
 
-    // A valid unit is written, where no count of faults rose.
+    // What is due to be written is written, where no count of faults rose.
     ensures complete { let c = call_of (F.shows files.old) (F.shows files.new) (O.shows out.old) (O.shows out.new) (E.shows err.old) (E.shows err.new) in let p = plan (map string_bytes words.now) in
         ForDue p c (λ due. IsWritten due → NoFault c → (result ≡ Status.Written) ⊎ (result ≡ Status.NoMemory)) }
 

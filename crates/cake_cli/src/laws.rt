@@ -1,22 +1,23 @@
-//! Laws of the first units: each function does nothing, and its contract is the law.
-ghost use Rattle.std.specs.Prelude.{◌≡◌, ℕ, List};
-ghost use Rattle.cake_base.specs.Outside.{Held};
+//! Laws of the command: each function does nothing, and its contract is the law.
+ghost use Rattle.std.specs.Prelude.{◌≡◌, List, Result};
+ghost use Rattle.c_model.specs.declared.tokens.CTok.{CTok};
 ghost use Rattle.c_model.specs.Core.{Core};
-ghost use Rattle.c_model.specs.FirstTokens.{Token};
 ghost use Rattle.c_model.specs.FirstUnit.{IsUnit};
-ghost use Rattle.c_model.specs.Verdict.{Verdict, IsVerdictOn, IsVerdict};
+ghost use Rattle.c_model.specs.PreprocessedUnit.{Prepared};
+ghost use Rattle.c_model.specs.Processes.{Refusal};
+ghost use Rattle.c_model.specs.Verdict.{Verdict, IsVerdict};
 
 /// Tokens are the unit of one core at most.
 pub fn one_unit()
-    ensures { (ts : List Token) (core other : Core) → IsUnit ts core → IsUnit ts other → core ≡ other }
+    ensures { (ts : List CTok) (core other : Core) → IsUnit ts core → IsUnit ts other → core ≡ other }
 {}
 
-/// Each text has one verdict at most.
+/// What preprocessing gives has one verdict at most.
 pub fn one_verdict()
-    ensures { (text : List ℕ) (verdict other : Verdict) → IsVerdictOn text verdict → IsVerdictOn text other → verdict ≡ other }
+    ensures { (done : Result Prepared Refusal) (verdict other : Verdict) → IsVerdict done verdict → IsVerdict done other → verdict ≡ other }
 {}
 
-/// Each file that is asked for has a verdict.
+/// What preprocessing gives has a verdict.
 pub fn every_verdict()
-    ensures { (held : Held) (name : List ℕ) → (verdict : Verdict) × IsVerdict held name verdict }
+    ensures { (done : Result Prepared Refusal) → (verdict : Verdict) × IsVerdict done verdict }
 {}

@@ -1,21 +1,20 @@
 //! The unit `int main(void) { return E; }`, read token by token from the left.
-ghost use Rattle.std.specs.Prelude.{◌≡◌, ◌≤◌, length, IfOk, MatchOption, Some, None};
-ghost use Rattle.std.specs.Option.{option_map};
-ghost use Rattle.c_model.specs.FirstTokens.{is_digit, tokens, end_place};
-ghost use Rattle.cake_cli.specs.Scanned.{token_of};
+ghost use Rattle.std.specs.Prelude.{◌≡◌, ◌≤◌, IfOk};
+ghost use Rattle.cake_base.specs.declared.places.Place.{Place};
+ghost use Rattle.cake_cli.specs.SortViews.{sort_view};
 ghost use Rattle.cake_cli.specs.Views.{expr_of, open_of, opens_of, stage_of, stage_option, reading_of};
-ghost use Rattle.cake_cli.specs.Reader.{constant_of, sign_of, front_words, is_word_at, past_sign, past_close, past_end, read_token, read_unit};
+ghost use Rattle.cake_cli.specs.Reader.{front_rank, past_sign, past_close, past_end, past_operand, past_begin, past_tail, read_sort, read_token, read_unit};
 ghost use Rattle.cake_cli.specs.Reader as reader;
 
-use crate::constants::IntConstant;
 use crate::expression::{Expr, NOTHING_OPEN, Open, Waiting, close, join};
-use crate::tokens::{Scanner, Token};
+use crate::sorts::{Sort, sort_of};
 use c_model::numbers::BinOp;
+use c_tokens::{CList, CTok};
 use cake_base::{NoMemory, Place};
 use std::alloc::Global;
 
 /// A unit has at most so many tokens.
-const MAX_TOKENS: u32 = 100;
+const MAX_TOKENS: usize = 100;
 
 /// How far a unit has been read. The innermost of the outer parentheses is the last.
 #[derive(Drop)]
@@ -39,55 +38,23 @@ pub enum Reading {
     Reads(Expr),
 }
 
-fn is_digit(byte: u8) -> bool
-    ensures { result ≡ is_digit byte }
+fn front_rank(sort: Sort) -> usize
+    ensures rank { result ≡ front_rank (sort_view sort) }
+    ensures bound { result ≤ 7 }
 {
-    byte >= b'0' && byte <= b'9'
-}
-
-fn constant_of(text: &[u8]) -> Option<IntConstant>
-    ensures { option_map (λ n. n.value) result ≡ constant_of text.now }
-{
-    if text.is_empty() || (text.len() > 1 && text[0] == b'0') {
-        return None;
-    }
-    let mut value = 0u32;
-    for byte in text {
-        if !is_digit(*byte) {
-            return None;
-        }
-        let next = 10 * u64::from(value) + u64::from(*byte - b'0');
-        if next > 2_147_483_647 {
-            return None;
-        }
-        value = next as u32;
-    }
-    Some(IntConstant { value })
-}
-
-fn sign_of(text: &[u8]) -> Option<BinOp>
-    ensures { result ≡ sign_of text.now }
-{
-    match text {
-        b"*" => Some(BinOp::Mul),
-        b"+" => Some(BinOp::Add),
-        b"-" => Some(BinOp::Sub),
-        _ => None,
-    }
-}
-
-fn is_front_word(count: usize, text: &[u8]) -> bool
-    ensures { result ≡ is_word_at front_words count text.now }
-{
-    match count {
-        0 => text == b"int".as_slice(),
-        1 => text == b"main".as_slice(),
-        2 => text == b"(".as_slice(),
-        3 => text == b"void".as_slice(),
-        4 => text == b")".as_slice(),
-        5 => text == b"{".as_slice(),
-        6 => text == b"return".as_slice(),
-        _ => false,
+    match sort {
+        Sort::IntWord => 0,
+        Sort::MainName => 1,
+        Sort::OpenParenthesis => 2,
+        Sort::VoidWord => 3,
+        Sort::CloseParenthesis => 4,
+        Sort::OpenBrace => 5,
+        Sort::ReturnWord => 6,
+        Sort::Constant(_) => 7,
+        Sort::Sign(_) => 7,
+        Sort::Semicolon => 7,
+        Sort::CloseBrace => 7,
+        Sort::Other => 7,
     }
 }
 
@@ -152,88 +119,129 @@ fn past_end(
 
 fn past_operand(
     alloc: Global,
-    token: &Token,
+    sort: Sort,
+    place: Place,
     operand: Expr,
     here: Open,
     outer: Vec<Open>,
 ) -> Result<Option<Stage>, NoMemory>
-    ensures { IfOk result (λ s. stage_option s ≡ read_token (reader.Operator (expr_of operand) (open_of here) (opens_of outer.items)) (token_of token.now)) }
+    ensures { IfOk result (λ s. stage_option s ≡ past_operand (sort_view sort) place (expr_of operand) (open_of here) (opens_of outer.items)) }
 {
-    match sign_of(token.text) {
-        Some(op) => Ok(Some(past_sign(alloc, op, token.place, operand, here, outer)?)),
-        None => {
-            if token.text == b")".as_slice() {
-                past_close(alloc, operand, here, outer)
-            } else if token.text == b";".as_slice() {
-                past_end(alloc, operand, here, outer)
-            } else {
-                Ok(None)
-            }
-        }
+    match sort {
+        Sort::Sign(op) => Ok(Some(past_sign(alloc, op, place, operand, here, outer)?)),
+        Sort::CloseParenthesis => past_close(alloc, operand, here, outer),
+        Sort::Semicolon => past_end(alloc, operand, here, outer),
+        Sort::IntWord => Ok(None),
+        Sort::MainName => Ok(None),
+        Sort::OpenParenthesis => Ok(None),
+        Sort::VoidWord => Ok(None),
+        Sort::OpenBrace => Ok(None),
+        Sort::ReturnWord => Ok(None),
+        Sort::Constant(_) => Ok(None),
+        Sort::CloseBrace => Ok(None),
+        Sort::Other => Ok(None),
     }
 }
 
-fn past_begin(token: &Token, here: Open, mut outer: Vec<Open>) -> Result<Option<Stage>, NoMemory>
-    ensures { IfOk result (λ s. stage_option s ≡ read_token (reader.Operand (open_of here) (opens_of outer.items)) (token_of token.now)) }
+fn past_begin(
+    sort: Sort,
+    place: Place,
+    here: Open,
+    mut outer: Vec<Open>,
+) -> Result<Option<Stage>, NoMemory>
+    ensures { IfOk result (λ s. stage_option s ≡ past_begin (sort_view sort) place (open_of here) (opens_of outer.items)) }
 {
-    if token.text == b"(".as_slice() {
-        outer.push(here)?;
-        return Ok(Some(Stage::Operand(NOTHING_OPEN, outer)));
-    }
-    match constant_of(token.text) {
-        Some(constant) => {
-            let operand = Expr::Constant(constant, token.place);
+    match sort {
+        Sort::OpenParenthesis => {
+            outer.push(here)?;
+            Ok(Some(Stage::Operand(NOTHING_OPEN, outer)))
+        }
+        Sort::Constant(constant) => {
+            let operand = Expr::Constant(constant, place);
             Ok(Some(Stage::Operator(operand, here, outer)))
         }
-        None => Ok(None),
+        Sort::IntWord => Ok(None),
+        Sort::MainName => Ok(None),
+        Sort::VoidWord => Ok(None),
+        Sort::CloseParenthesis => Ok(None),
+        Sort::OpenBrace => Ok(None),
+        Sort::ReturnWord => Ok(None),
+        Sort::Sign(_) => Ok(None),
+        Sort::Semicolon => Ok(None),
+        Sort::CloseBrace => Ok(None),
+        Sort::Other => Ok(None),
+    }
+}
+
+fn past_tail(sort: Sort, value: Expr) -> Option<Stage>
+    ensures { stage_option result ≡ past_tail (sort_view sort) (expr_of value) }
+{
+    match sort {
+        Sort::CloseBrace => Some(Stage::Whole(value)),
+        Sort::IntWord => None,
+        Sort::MainName => None,
+        Sort::OpenParenthesis => None,
+        Sort::VoidWord => None,
+        Sort::CloseParenthesis => None,
+        Sort::OpenBrace => None,
+        Sort::ReturnWord => None,
+        Sort::Constant(_) => None,
+        Sort::Sign(_) => None,
+        Sort::Semicolon => None,
+        Sort::Other => None,
+    }
+}
+
+fn past_word(alloc: Global, count: usize, sort: Sort) -> Option<Stage>
+    ensures { (place : Place) → stage_option result ≡ read_sort (reader.Front count) (sort_view sort) place }
+{
+    if front_rank(sort) != count {
+        None
+    } else if count == 6 {
+        Some(Stage::Operand(NOTHING_OPEN, Vec::new(alloc)))
+    } else {
+        Some(Stage::Front(count + 1))
     }
 }
 
 /// Goes on behind one more token, where the unit can.
-fn read_token(alloc: Global, stage: Stage, token: &Token) -> Result<Option<Stage>, NoMemory>
-    ensures { IfOk result (λ s. stage_option s ≡ read_token (stage_of stage) (token_of token.now)) }
+fn read_token(alloc: Global, stage: Stage, token: &CTok) -> Result<Option<Stage>, NoMemory>
+    ensures { IfOk result (λ s. stage_option s ≡ read_token (stage_of stage) token.now) }
 {
+    let sort = sort_of(token);
     match stage {
-        Stage::Front(count) => {
-            if !is_front_word(count, token.text) {
-                Ok(None)
-            } else if count == 6 {
-                Ok(Some(Stage::Operand(NOTHING_OPEN, Vec::new(alloc))))
-            } else {
-                Ok(Some(Stage::Front(count + 1)))
-            }
+        Stage::Front(count) => Ok(past_word(alloc, count, sort)),
+        Stage::Operand(here, outer) => past_begin(sort, token.place, here, outer),
+        Stage::Operator(operand, here, outer) => {
+            past_operand(alloc, sort, token.place, operand, here, outer)
         }
-        Stage::Operand(here, outer) => past_begin(token, here, outer),
-        Stage::Operator(operand, here, outer) => past_operand(alloc, token, operand, here, outer),
-        Stage::Tail(value) => {
-            if token.text == b"}".as_slice() {
-                Ok(Some(Stage::Whole(value)))
-            } else {
-                Ok(None)
-            }
-        }
+        Stage::Tail(value) => Ok(past_tail(sort, value)),
         Stage::Whole(_) => Ok(None),
     }
 }
 
-/// Reads a whole unit of at most a hundred tokens.
-pub fn read_unit(alloc: Global, text: &[u8]) -> Result<Reading, NoMemory>
-    requires { length text.now ≤ 16777216 }
-    ensures { IfOk result (λ r. reading_of r ≡ read_unit (tokens text.now) (end_place text.now)) }
+/// Reads a whole unit of at most a hundred tokens, which end at `end`.
+pub fn read_unit(alloc: Global, tokens: &CList, end: Place) -> Result<Reading, NoMemory>
+    ensures { IfOk result (λ r. reading_of r ≡ read_unit tokens.now end) }
 {
-    let mut scanner = Scanner::new(text);
     let mut stage = Stage::Front(0);
-    while let Some(token) = scanner.next_token() {
-        if token.place.order == MAX_TOKENS {
+    for at in 0..tokens.count() {
+        let Some(token) = tokens.get(at) else {
+            break;
+        };
+        if at == MAX_TOKENS {
             return Ok(Reading::Stops(token.place));
         }
-        match read_token(alloc, stage, &token)? {
+        match read_token(alloc, stage, token)? {
             None => return Ok(Reading::Stops(token.place)),
             Some(next) => stage = next,
         }
     }
     match stage {
         Stage::Whole(value) => Ok(Reading::Reads(value)),
-        _ => Ok(Reading::Stops(scanner.end())),
+        Stage::Front(_) => Ok(Reading::Stops(end)),
+        Stage::Operand(_, _) => Ok(Reading::Stops(end)),
+        Stage::Operator(_, _, _) => Ok(Reading::Stops(end)),
+        Stage::Tail(_) => Ok(Reading::Stops(end)),
     }
 }

@@ -1,12 +1,24 @@
 //! What is put on the sinks, built whole before the first put.
-ghost use Rattle.std.specs.Prelude.{◌≡◌, ◌≤◌, [], length, IfOk};
-ghost use Rattle.c_model.specs.Answer.{not_built_line, cannot_read_line};
-ghost use Rattle.cake_cli.specs.Reports.{ReportsText};
+ghost use Rattle.std.specs.Prelude.{◌≡◌, IfOk, Ok};
+ghost use Rattle.cake_base.specs.declared.places.Place.{Place};
+ghost use Rattle.c_model.specs.Answer.{Refused, Unbuilt, Limited, Written, delivery_of};
+ghost use Rattle.c_model.specs.FirstUnit.{returning};
+ghost use Rattle.c_model.specs.ReportLines.{notes_text};
+ghost use Rattle.pp_directives.specs.Promise.{with_log};
+ghost use Rattle.cake_cli.specs.Promise.{IsDelivered};
+ghost use Rattle.cake_cli.specs.Reports.{IsReport, ReportsTokens, ReportsUnit, ReportsDone, ReportsStop, unread_answer};
+ghost use Rattle.cake_cli.specs.Views.{expr_of};
 
+use crate::expanded::expanded_text;
+use crate::expression::Expr;
 use crate::reader::{Reading, read_unit};
+use crate::report_lines::{push_cannot_read, push_fault, push_limit, push_not_built, push_notes};
 use crate::spelling::spell;
 use crate::status::Status;
-use cake_base::{Bytes, NoMemory, Place};
+use c_model::words::Mode;
+use c_tokens::{CList, TokenError, convert_tokens};
+use cake_base::{Bytes, Fault, LimitHit, NoMemory, Place};
+use pp_directives::{Prep, PrepError, PrepLog};
 use std::alloc::Global;
 
 /// A status, and what is put on each sink.
@@ -17,31 +29,52 @@ pub struct Report {
     pub err: Bytes,
 }
 
-fn not_built(alloc: Global, name: &str, place: Place) -> Result<Bytes, NoMemory>
-    ensures { IfOk result (λ line. line ≡ not_built_line name.now place) }
-{
-    let line = place.line.to_string(alloc)?;
-    let column = place.column.to_string(alloc)?;
-    let mut text = Bytes::new(alloc);
-    text.push(name.as_bytes())?;
-    text.push(b":")?;
-    text.push(line.as_bytes())?;
-    text.push(b":")?;
-    text.push(column.as_bytes())?;
-    text.push(b": not built yet\n")?;
-    Ok(text)
-}
-
-/// The report on a main file that can't be read.
-pub fn unreadable(alloc: Global, name: &str) -> Result<Report, NoMemory>
-    ensures status { IfOk result (λ r. r.status ≡ Status.ReadFault) }
-    ensures out { IfOk result (λ r. r.out ≡ []) }
-    ensures err { IfOk result (λ r. r.err ≡ cannot_read_line name.now) }
+fn refused(alloc: Global, log: &PrepLog, fault: &Fault) -> Result<Report, NoMemory>
+    ensures { IfOk result (IsReport (Refused log.now fault.now)) }
 {
     let mut err = Bytes::new(alloc);
-    err.push(b"cake: cannot read ")?;
-    err.push(name.as_bytes())?;
-    err.push(b"\n")?;
+    push_notes(&mut err, log)?;
+    push_fault(&mut err, log, fault)?;
+    Ok(Report {
+        status: Status::Refused,
+        out: Bytes::new(alloc),
+        err,
+    })
+}
+
+fn unbuilt(alloc: Global, log: &PrepLog, place: Place) -> Result<Report, NoMemory>
+    ensures { IfOk result (IsReport (Unbuilt log.now place)) }
+{
+    let mut err = Bytes::new(alloc);
+    push_notes(&mut err, log)?;
+    push_not_built(&mut err, log, place)?;
+    Ok(Report {
+        status: Status::Refused,
+        out: Bytes::new(alloc),
+        err,
+    })
+}
+
+fn limited(alloc: Global, log: &PrepLog, hit: &LimitHit) -> Result<Report, NoMemory>
+    ensures { IfOk result (IsReport (Limited log.now hit.now)) }
+{
+    let mut err = Bytes::new(alloc);
+    push_notes(&mut err, log)?;
+    push_limit(&mut err, log, hit)?;
+    Ok(Report {
+        status: Status::Limit,
+        out: Bytes::new(alloc),
+        err,
+    })
+}
+
+fn unreadable(alloc: Global, log: &PrepLog, file: u32) -> Result<Report, NoMemory>
+    ensures { IfOk result (IsReport (unread_answer log.now file)) }
+{
+    let name = log.file_name(file).unwrap_or("");
+    let mut err = Bytes::new(alloc);
+    push_notes(&mut err, log)?;
+    push_cannot_read(&mut err, name)?;
     Ok(Report {
         status: Status::ReadFault,
         out: Bytes::new(alloc),
@@ -49,21 +82,93 @@ pub fn unreadable(alloc: Global, name: &str) -> Result<Report, NoMemory>
     })
 }
 
-/// The report on the bytes of the main file.
-pub fn report_on(alloc: Global, name: &str, text: &[u8]) -> Result<Report, NoMemory>
-    requires { length text.now ≤ 16777216 }
-    ensures { IfOk result (ReportsText name.now text.now) }
+fn written(alloc: Global, log: &PrepLog, out: Bytes) -> Result<Report, NoMemory>
+    ensures status { IfOk result (λ r. r.status ≡ Status.Written) }
+    ensures out { IfOk result (λ r. r.out ≡ out) }
+    ensures err { IfOk result (λ r. r.err ≡ notes_text log.now) }
 {
-    match read_unit(alloc, text)? {
-        Reading::Stops(place) => Ok(Report {
-            status: Status::Refused,
-            out: Bytes::new(alloc),
-            err: not_built(alloc, name, place)?,
-        }),
-        Reading::Reads(value) => Ok(Report {
-            status: Status::Written,
-            out: spell(alloc, &value)?,
-            err: Bytes::new(alloc),
-        }),
+    let mut err = Bytes::new(alloc);
+    push_notes(&mut err, log)?;
+    Ok(Report {
+        status: Status::Written,
+        out,
+        err,
+    })
+}
+
+/// What goes to out of a unit that returns this value.
+fn unit_text(alloc: Global, mode: Mode, value: &Expr) -> Result<Bytes, NoMemory>
+    ensures { IfOk result (λ text. (place : Place) → IsDelivered (delivery_of mode (returning (expr_of value.now) place)) text) }
+{
+    match mode {
+        Mode::Translate => spell(alloc, value),
+        Mode::Expand => Ok(Bytes::new(alloc)),
+        Mode::Check => Ok(Bytes::new(alloc)),
+    }
+}
+
+/// The report on tokens of C.
+fn report_tokens(
+    alloc: Global,
+    mode: Mode,
+    log: &PrepLog,
+    tokens: &CList,
+    end: Place,
+) -> Result<Report, NoMemory>
+    ensures { IfOk result (ReportsTokens mode log.now tokens.now end) }
+{
+    match read_unit(alloc, tokens, end)? {
+        Reading::Stops(place) => unbuilt(alloc, log, place),
+        Reading::Reads(value) => {
+            let out = unit_text(alloc, mode, &value)?;
+            written(alloc, log, out)
+        }
+    }
+}
+
+/// The report on a unit that is preprocessed, where its tokens are read.
+fn report_unit(
+    alloc: Global,
+    mode: Mode,
+    log: &PrepLog,
+    prep: &Prep,
+) -> Result<Report, NoMemory>
+    ensures { IfOk result (ReportsUnit mode log.now (with_log log.now prep.now)) }
+{
+    match convert_tokens(alloc, prep.tokens()) {
+        Ok(tokens) => report_tokens(alloc, mode, log, &tokens, prep.end()),
+        Err(TokenError::Fault(fault)) => refused(alloc, log, &fault),
+        Err(TokenError::NoMemory) => Err(NoMemory),
+    }
+}
+
+/// The report on a unit that is preprocessed.
+pub fn report_prepared(
+    alloc: Global,
+    mode: Mode,
+    log: &PrepLog,
+    prep: &Prep,
+) -> Result<Report, NoMemory>
+    ensures { IfOk result (ReportsDone mode (Ok (with_log log.now prep.now))) }
+{
+    match mode {
+        Mode::Translate => report_unit(alloc, mode, log, prep),
+        Mode::Expand => {
+            let out = expanded_text(alloc, prep.tokens())?;
+            written(alloc, log, out)
+        }
+        Mode::Check => report_unit(alloc, mode, log, prep),
+    }
+}
+
+/// The report on a unit that isn't preprocessed to its end.
+pub fn report_stop(alloc: Global, log: &PrepLog, error: PrepError) -> Result<Report, NoMemory>
+    ensures { IfOk result (ReportsStop error log.now) }
+{
+    match error {
+        PrepError::Fault(fault) => refused(alloc, log, &fault),
+        PrepError::Limit(hit) => limited(alloc, log, &hit),
+        PrepError::Read(file, _) => unreadable(alloc, log, file),
+        PrepError::NoMemory => Err(NoMemory),
     }
 }

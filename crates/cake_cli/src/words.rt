@@ -1,75 +1,125 @@
 //! The words of the command.
-ghost use Rattle.std.specs.Prelude.{◌≡◌, ◌≤◌, map, string_bytes, IfOk, IfErr};
-ghost use Rattle.c_model.specs.Words.{is_option, plan, File, Bad};
-ghost use Rattle.c_model.specs.Answer.{usage_line};
-ghost use Rattle.cake_cli.specs.BadWord.{number_of};
+ghost use Rattle.std.specs.Prelude.{◌≡◌, map, string_bytes, IfOk, IfErr, OnOk, IsOk, Err};
+ghost use Rattle.c_model.specs.Words.{plan};
+ghost use Rattle.c_model.specs.ReportLines.{usage_line};
+ghost use Rattle.cake_cli.specs.WordsRead.{meaning_of, with_meaning, Answers, IsMemory};
 
+use crate::meanings::{Meaning, Met};
+use arrayvec::ArrayString;
+use c_model::words::Mode;
+use cake_base::{FileName, NoMemory};
+use itoa::Buffer;
+use pp_directives::Options;
+use std::alloc::Global;
 use thiserror::Error;
 
-/// Why the words have no reading.
+/// What the words ask for.
+#[derive(Drop)]
+pub struct Plan {
+    pub mode: Mode,
+    pub file: Option<FileName>,
+    pub options: Options,
+}
+
+/// Why the words aren't read.
 #[derive(Debug, Drop, Error)]
 pub enum WordsError {
     /// The word of this number is bad; words count from 1, and a missing word has the number after
     /// the last.
     #[error("Bad")]
     Bad(usize),
+    #[error("NoMemory")]
+    NoMemory,
 }
 
-impl WordsError {
-    /// The number of the bad word.
-    pub fn number(&self) -> usize
-        ensures { result ≡ number_of self.now }
-    {
-        match self {
-            WordsError::Bad(number) => *number,
-        }
+impl From<NoMemory> for WordsError {
+    ghost use Rattle.std.specs.Prelude.{◌≡◌};
+    ghost use Rattle.cake_cli.specs.declared.words.WordsError.TheVariants as words_error;
+
+    ghost from_gives = { λ _ e. e ≡ words_error.NoMemory };
+
+    fn from(_: NoMemory) -> WordsError {
+        WordsError::NoMemory
     }
 }
 
-fn is_option(word: &str) -> bool
-    ensures { result ≡ is_option word.now }
+/// Tests all words, and takes no memory.
+fn test_words(words: &[String]) -> Result<(), usize>
+    ensures ok { OnOk result (IsOk (plan (map string_bytes words.now))) }
+    ensures bad { IfErr result (λ number. plan (map string_bytes words.now) ≡ Err number) }
 {
-    let bytes = word.as_bytes();
-    bytes.len() > 1 && bytes[0] == b'-'
+    let mut met = Met::nothing();
+    for (i, word) in words.iter().enumerate() {
+        match met.step(word.as_str()) {
+            None => return Err(i + 1),
+            Some(_) => {}
+        }
+    }
+    match met.named() {
+        None => Err(words.len() + 1),
+        Some(_) => Ok(()),
+    }
 }
 
-/// Reads the words of the command after its name: exactly one file, and no option.
-///
-/// Gives the name of the file. The first bad word is one that begins with `-` and isn't `-`, or a
-/// second word.
-pub fn read_words(words: &[String]) -> Result<&str, WordsError>
-    ensures file { IfOk result (λ name. plan (map string_bytes words.now) ≡ File name.now) }
-    ensures bad { IfErr result (λ e. plan (map string_bytes words.now) ≡ Bad (number_of e)) }
-    ensures number { IfErr result (λ e. (1 ≤ number_of e) × (number_of e ≤ 2)) }
+/// Adds what a word says to the options.
+fn add(options: &mut Options, meaning: Meaning) -> Result<(), NoMemory>
+    ensures { OnOk result (options.new ≡ with_meaning (meaning_of meaning.entry) options.old) }
 {
-    match words {
-        [] => Err(WordsError::Bad(1)),
-        [word] => {
-            if is_option(word.as_str()) {
-                Err(WordsError::Bad(1))
-            } else {
-                Ok(word.as_str())
-            }
+    match meaning {
+        Meaning::Defines(name, value) => options.define(name, value),
+        Meaning::Searches(directory) => options.dir(directory),
+        Meaning::Asks(_) => Ok(()),
+        Meaning::Names(_) => Ok(()),
+        Meaning::Expects(_) => Ok(()),
+        Meaning::EndsOptions => Ok(()),
+        Meaning::Nothing => Ok(()),
+    }
+}
+
+/// Takes what the words say.
+fn take_words(alloc: Global, words: &[String]) -> Result<Plan, WordsError>
+    ensures { Answers result (plan (map string_bytes words.now)) }
+{
+    let mut options = Options::new(alloc);
+    let mut met = Met::nothing();
+    for (i, word) in words.iter().enumerate() {
+        match met.step(word.as_str()) {
+            None => return Err(WordsError::Bad(i + 1)),
+            Some(meaning) => add(&mut options, meaning)?,
         }
-        [word, ..] => {
-            if is_option(word.as_str()) {
-                Err(WordsError::Bad(1))
-            } else {
-                Err(WordsError::Bad(2))
-            }
-        }
+    }
+    match met.named() {
+        None => Err(WordsError::Bad(words.len() + 1)),
+        Some(file) => Ok(Plan {
+            mode: met.mode.unwrap_or(Mode::Translate),
+            file: Some(FileName::new(alloc, file)?),
+            options,
+        }),
+    }
+}
+
+/// Reads the words of the command after its name.
+///
+/// Words are tested before any memory is taken: `WordsError::Bad`, with the number of the first bad
+/// word, comes exactly where they have no reading.
+pub fn read_words(alloc: Global, words: &[String]) -> Result<Plan, WordsError>
+    ensures answer { Answers result (plan (map string_bytes words.now)) }
+    ensures memory { IfErr result (λ e. IsMemory e → IsOk (plan (map string_bytes words.now))) }
+{
+    match test_words(words) {
+        Ok(()) => take_words(alloc, words),
+        Err(number) => Err(WordsError::Bad(number)),
     }
 }
 
 /// The line on a bad word, which takes no memory.
-pub fn usage_line(number: usize) -> &'static [u8]
-    requires least { 1 ≤ number }
-    requires most { number ≤ 2 }
-    ensures { result.now ≡ usage_line number }
+pub fn usage_line(number: usize) -> ArrayString<40>
+    ensures { result.bytes ≡ usage_line number }
 {
-    if number == 1 {
-        b"cake: usage: word 1\n"
-    } else {
-        b"cake: usage: word 2\n"
-    }
+    let mut digits = Buffer::new();
+    let mut line = ArrayString::new();
+    line.push_str("cake: usage: word ");
+    line.push_str(digits.format(number));
+    line.push_str("\n");
+    line
 }

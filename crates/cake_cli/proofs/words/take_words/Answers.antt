@@ -1,0 +1,16 @@
+use Rattle.std.proofs.Common.{string_bytes, ◌+◌}
+use Rattle.cake_cli.specs.WordsRead.{met_of}
+use Rattle.cake_cli.proofs.PlanLaws.{rest_is, prefixed_bad, prefixed_good}
+use Rattle.cake_cli.proofs.words.take_words.Goals as goal
+
+pub returns-in-None : goal.returns-in-None
+returns-in-None c =
+    prefixed_bad c.loop-i.options (met_of c.loop-i.met) (c.loop-i.i + 1) c.as_str.result.now _ _ _
+    (rest_is string_bytes c.args.words.now c.loop-i.i c.index-words-i.result c.as_str.result.now c.loop-i-test.true c.index-words-i.is c.as_str.ensures.value)
+    (c.in-None.ensures) c.loop-i.invariant
+
+pub loop-i-preserved : goal.loop-i-preserved
+loop-i-preserved c =
+    prefixed_good c.loop-i.options c.add.new.options (met_of c.loop-i.met) (met_of c.step.new.self) _ (c.loop-i.i + 1) c.as_str.result.now _ _ _
+    (rest_is string_bytes c.args.words.now c.loop-i.i c.index-words-i.result c.as_str.result.now c.loop-i-test.true c.index-words-i.is c.as_str.ensures.value)
+    (c.in-Some.ensures) (c.in_ok-add-in-Some.ensures) c.loop-i.invariant

@@ -1,0 +1,7 @@
+use Rattle.std.proofs.Common.{◌+◌, drop, map, string_bytes}
+use Rattle.c_model.specs.Words.{plan, plan_from}
+use Rattle.cake_cli.specs.WordsRead.{met_of, Leads}
+use Rattle.cake_cli.proofs.words.test_words.Given as goal
+
+abbrev pub invariant-loop-i : goal.invariant-loop-i
+invariant-loop-i l = Leads (plan_from (met_of l.met) (l.i + 1) (map string_bytes (drop l.i l.words))) (plan (map string_bytes l.words))
