@@ -162,7 +162,7 @@ module _ (T : Tables) (L : Language) (quiet : IsQuiet T L) (ok : (r : Rule) → 
   entry {f = loop p f} (Begins.in_further _ d e) = begun_loop p f (met_again f (step d) (begun_many p f (entry e)))
 
   -- what comes next before a form
-  lead : (F : List ℕ) {f : Form} {s new : L.State} {ts rest : List L.Token} {xs : List L.Tree} → Derives L f s ts xs new rest → mem (ahead T L new rest) F ≡ true → mem (ahead T L s ts) (leads T f F) ≡ true
+  pub lead : (F : List ℕ) {f : Form} {s new : L.State} {ts rest : List L.Token} {xs : List L.Tree} → Derives L f s ts xs new rest → mem (ahead T L new rest) F ≡ true → mem (ahead T L s ts) (leads T f F) ≡ true
   unfolding leads
   lead F {f = f} d h = elim (step d) [
     | inl m ↦ mem_left _ _ _ m.begun
@@ -200,7 +200,7 @@ module _ (T : Tables) (L : Language) (quiet : IsQuiet T L) (ok : (r : Rule) → 
   paired : {new new' : L.State} {rest rest' : List L.Token} {xs ys zs us vs ws : List L.Tree} → xs ≡ us → Same ys new rest vs new' rest' → zs ≡ xs ++ ys → ws ≡ us ++ vs → Same zs new rest ws new' rest'
   paired p q e h = record { trees = rw (e, h, p, q.trees) refl; state = q.state; place = q.place }
 
-  ahead_keeps : (r : Rule) (s : L.State) (rest : List L.Token) → mem (ahead T L (L.close r s) rest) (T.follows r) ≡ true → mem (ahead T L s rest) (T.follows r) ≡ true
+  pub ahead_keeps : (r : Rule) (s : L.State) (rest : List L.Token) → mem (ahead T L (L.close r s) rest) (T.follows r) ≡ true → mem (ahead T L s rest) (T.follows r) ≡ true
   unfolding ahead
   ahead_keeps r s [] h = h
   ahead_keeps r s (t ∷ rest) h = quiet.keeps r s t h

@@ -105,11 +105,13 @@ or_else f (loop p g) d = Derives.right d
 choice_first : (p : Test) (f g : Form) {s new : Scopes} {ts rest : List Terminal} {xs : List Tree} → passes p s ts ≡ true → Derives c_language f s ts xs new rest → Derives c_language (open_choice p f g) s ts xs new rest
 unfolding open_choice
 choice_first test.HasParameters f g b d = Derives.chosen b d
+choice_first test.ElseAhead f g b d = Derives.chosen b d
 choice_first _ f g b d = in_either f g d
 
 choice_second : (p : Test) (f g : Form) {s new : Scopes} {ts rest : List Terminal} {xs : List Tree} → passes p s ts ≡ false → Derives c_language g s ts xs new rest → Derives c_language (open_choice p f g) s ts xs new rest
 unfolding open_choice
 choice_second test.HasParameters f g b d = Derives.other b d
+choice_second test.ElseAhead f g b d = Derives.other b d
 choice_second _ f g b d = or_else f g d
 
 pub forget : {f : Form} {s new : Scopes} {ts rest : List Terminal} {xs : List Tree} → Derives parsed f s ts xs new rest → Derives c_language (untested f) s ts xs new rest
@@ -157,11 +159,13 @@ begun_else f (loop p g) d = Begins.in_right d
 begun_first : (p : Test) (f g : Form) {s : Scopes} {ts rest : List Terminal} → passes p s ts ≡ true → Begins c_language f s ts rest → Begins c_language (open_choice p f g) s ts rest
 unfolding open_choice
 begun_first test.HasParameters f g b d = Begins.in_chosen b d
+begun_first test.ElseAhead f g b d = Begins.in_chosen b d
 begun_first _ f g b d = begun_either f g d
 
 begun_second : (p : Test) (f g : Form) {s : Scopes} {ts rest : List Terminal} → passes p s ts ≡ false → Begins c_language g s ts rest → Begins c_language (open_choice p f g) s ts rest
 unfolding open_choice
 begun_second test.HasParameters f g b d = Begins.in_other b d
+begun_second test.ElseAhead f g b d = Begins.in_other b d
 begun_second _ f g b d = begun_else f g d
 
 pub forget_begun : {f : Form} {s : Scopes} {ts rest : List Terminal} → Begins parsed f s ts rest → Begins c_language (untested f) s ts rest

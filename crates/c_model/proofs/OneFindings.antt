@@ -1,5 +1,5 @@
 -- A graph has one list of findings: the order leaves no choice.
-use Rattle.std.proofs.Common.{◌≡◌, ℕ, zero, suc, ◌+◌, ◌<◌, ◌≤◌, List, [], ◌∷◌, length, refl, sym, ap, ◌∙◌, subst, ◌⊎◌, inl, inr, ⊎_elim, arith, Contains}
+use Rattle.std.proofs.Common.{◌≡◌, ℕ, zero, suc, ◌<◌, List, [], ◌∷◌, length, refl, sym, ap, ◌∙◌, subst, ◌⊎◌, inl, inr, ⊎_elim, arith, Contains}
 use Rattle.std.specs.Prelude.{AllPairs, slice_index_or}
 use Rattle.cake_base.specs.declared.rules.Fault.{Fault}
 use Rattle.c_model.specs.declared.flow.Edge.{Edge}

@@ -1,13 +1,13 @@
 -- Parts of runs with a number of turns and with more: the second goes as the first, unless that wants a turn
 -- and has none left.
-use Rattle.std.proofs.Common.{◌≡◌, ◌⊎◌, ℕ, zero, suc, ◌+◌, ◌≤◌, ℤ, Bool, true, false, Option, Result, Ok, Err, if◌then◌else◌, refl, sym, ap, ◌∙◌, subst, inl, inr, arith}
+use Rattle.std.proofs.Common.{◌≡◌, ◌⊎◌, ℕ, zero, suc, ◌+◌, ◌≤◌, ℤ, Bool, true, false, ◌&&◌, Option, Result, Ok, Err, if◌then◌else◌, refl, sym, ap, ◌∙◌, subst, inl, inr, arith}
 use Rattle.cake_base.specs.declared.places.Place.{Place}
 use Rattle.c_model.specs.declared.outcomes.Cause.{Cause}
 use Rattle.c_model.specs.Memory.{Memory, Value, Missing, Single, Structure, Scalar, Block}
 use Rattle.c_model.specs.Shapes.{Shape}
 use Rattle.c_model.specs.Loads.{load}
 use Rattle.c_model.specs.Stores.{store}
-use Rattle.c_model.specs.Accesses.{loaded, load_from, is_outside, remember, store_to, release, release_at}
+use Rattle.c_model.specs.Accesses.{loaded, load_from, is_structure, is_outside, remember, store_to, release, release_at}
 use Rattle.c_model.specs.Run.{Ending, Out, Leaves, State, Step, Goes, Ends, Act, ◌▷◌, follow, just, ends, given, turn_of, take_turn, choose, used, scalar_of, Flow, Falls, Breaks, Continues, Gives, then_do, then_again, loop}
 
 -- a state with more turns
@@ -88,8 +88,12 @@ loaded_related : (j : ℕ) (block : Block) (place : Option Place) (r : Result Va
 loaded_related j block place (Ok v) s = inl (refl, omega arith)
 loaded_related j block place (Err cause) s = inl (refl, omega arith)
 
+loaded_by : (j : ℕ) (b : Bool) (place : Option Place) (shape : Shape) (block : Block) (offset : ℤ) (s : State) → Over j s.turns ((if b then ends Leaves else (λ s. loaded block place (load s.memory shape block offset) s)) s) ((if b then ends Leaves else (λ s. loaded block place (load s.memory shape block offset) s)) (plus j s))
+loaded_by j true place shape block offset s = inl (refl, omega arith)
+loaded_by j false place shape block offset s = loaded_related j block place (load s.memory shape block offset) s
+
 pub load_related : (j d : ℕ) (place : Option Place) (shape : Shape) (block : Block) (offset : ℤ) → Rel j d (load_from place shape block offset) (load_from place shape block offset)
-load_related j d place shape block offset = record { at = λ s le. loaded_related j block place (load s.memory shape block offset) s }
+load_related j d place shape block offset = record { at = λ s le. loaded_by j (is_outside block && is_structure shape) place shape block offset s }
 
 remember_related : (j : ℕ) (place : Option Place) (r : Result Memory Cause) (s : State) → Over j s.turns (remember place r s) (remember place r (plus j s))
 remember_related j place (Ok memory) s = inl (refl, omega arith)

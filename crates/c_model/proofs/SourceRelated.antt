@@ -15,8 +15,8 @@ use Rattle.std.specs.Option.{unwrap_or}
 use Rattle.c_model.specs.Layout.{member_offset}
 use Rattle.c_model.specs.Loads.{value_at}
 use Rattle.c_model.specs.SourceMarks.{at_mark, lvalue_mark, expr_mark, tested_at}
-use Rattle.c_model.specs.SourceOperations.{to_type, step_op, pointed, load_object, store_object, operated_on, logic, single, chosen, member_value, stepped}
-use Rattle.c_model.specs.SourceValues.{operand, needed, converted_value, followed, indexed, evaluate, locate, values_of, initialise}
+use Rattle.c_model.specs.SourceOperations.{to_type, step_op, pointed, load_object, store_object, operated_on, logic, single, member_value, stepped}
+use Rattle.c_model.specs.SourceValues.{operand, needed, converted_value, chosen, followed, indexed, evaluate, locate, values_of, initialise}
 use Rattle.c_model.specs.Core as unit
 use Rattle.c_model.proofs.Related.{Rel, then_related, just_related, ends_related, given_related, if_related, choose_related, used_related, scalar_related, load_related, store_related}
 
@@ -54,9 +54,10 @@ module _ (j d : ℕ) where
   logic_related Or true m n related = just_related j d _
   logic_related Or false m n related = then_related j d _ _ _ _ related (λ v. just_related j d _)
 
-  chosen_related : (type : CType) (b : Bool) (m m' n n' : Act Value) → Rel j d m m' → Rel j d n n' → Rel j d (chosen type b m n) (chosen type b m' n')
-  chosen_related type b m m' n n' first second =
-      if_related j d (is_void type) _ _ _ _ (then_related j d _ _ _ _ (choose_related j d b _ _ _ _ first second) (λ v. just_related j d Missing)) (choose_related j d b _ _ _ _ first second)
+  chosen_related : (type : CType) (x y : unit.Expr) (b : Bool) (m m' n n' : Act Value) → Rel j d m m' → Rel j d n n' → Rel j d (chosen type x y b m n) (chosen type x y b m' n')
+  chosen_related type x y b m m' n n' first second =
+      if_related j d (is_void type) _ _ _ _ (then_related j d _ _ _ _ (choose_related j d b _ _ _ _ first second) (λ v. just_related j d Missing))
+      (choose_related j d b _ _ _ _ (needed_related x m m' first) (needed_related y n n' second))
 
   single_related : (x : Scalar) → Rel j d (single x) (single x)
   single_related x = just_related j d (Single x)
@@ -102,7 +103,7 @@ module _ (j d : ℕ) where
           (λ x. then_related j d _ _ _ _ (logic_related op (is_true x) _ _ (operand_related b _ _ (evaluate_related b))) single_related)
       evaluate_related (unit.Choice c a b mark) =
           then_related j d _ _ _ _ (operand_related c _ _ (evaluate_related c))
-          (λ x. chosen_related (type_of a) (is_true x) _ _ _ _ (evaluate_related a) (evaluate_related b))
+          (λ x. chosen_related (type_of a) a b (is_true x) _ _ _ _ (evaluate_related a) (evaluate_related b))
       evaluate_related (unit.Convert origin type a mark) = converted_related type a _ _ (evaluate_related a)
       evaluate_related (unit.Call h arguments mark) =
           then_related j d _ _ _ _ (operand_related h _ _ (evaluate_related h))

@@ -6,7 +6,7 @@ use Rattle.cake_base.specs.declared.places.Place.{Place}
 use Rattle.c_model.specs.declared.outcomes.Cause.{Cause}
 use Rattle.c_model.specs.declared.outcomes.Cause.TheVariants.{BadRelease}
 use Rattle.c_model.specs.Memory.{Block, Outside, Scalar, Number, Null, Address, Code, Value, Contents, Memory, contents_of, with_block}
-use Rattle.c_model.specs.Shapes.{Shape}
+use Rattle.c_model.specs.Shapes.{Shape, StructShape}
 use Rattle.c_model.specs.Loads.{load}
 use Rattle.c_model.specs.Stores.{store}
 use Rattle.c_model.specs.Run.{Ending, Goes, Undefined, Leaves, Act, ends, just}
@@ -28,9 +28,14 @@ abbrev pub loaded : Block → Option Place → Result Value Cause → Act Value
 loaded block place (Ok value) = just value
 loaded block place (Err cause) = ends (cause_in block place cause)
 
--- a load
+abbrev pub is_structure : Shape → Bool
+is_structure (StructShape size) = true
+is_structure shape = false
+
+-- a load; of an object of the outside the handle that it holds is all that is loaded
 abbrev pub load_from : Option Place → Shape → Block → (offset : ℤ) → Act Value
-load_from place shape block offset = λ s. loaded block place (load s.memory shape block offset) s
+load_from place shape block offset =
+    if is_outside block && is_structure shape then ends Leaves else (λ s. loaded block place (load s.memory shape block offset) s)
 
 -- a store, of which there is none to the outside
 abbrev pub store_to : Option Place → Shape → Block → (offset : ℤ) → Value → Act (Unit {0})

@@ -5,7 +5,7 @@ use Rattle.c_model.specs.declared.directives.Group.TheVariants.{Taken, Sought, P
 use Rattle.c_model.specs.declared.directives.Conditional.{Conditional}
 use Rattle.c_model.specs.Macros.{defines}
 use Rattle.c_model.specs.Expansion as expansion
-use Rattle.c_model.specs.ConditionStub.{condition}
+use Rattle.c_model.specs.Conditions.{condition}
 use Rattle.c_model.specs.Directives.{Part}
 use Rattle.c_model.specs.Conditionals.{Conditionals, is_translated, opened, opened_in_skipped, next_group, passed, at_else}
 use Rattle.c_model.specs.Processes.{Process, gives, and_then}

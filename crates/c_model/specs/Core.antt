@@ -157,10 +157,10 @@ abbrev pub is_named : FunctionName → List ℕ → Bool
 is_named (Named other) name = bytes_eq other name
 is_named (Lambda place) name = false
 
--- the function of a name
+-- the external function of a name
 abbrev pub function_of : List Function → List ℕ → Option Function
 function_of [] name = None
-function_of (f ∷ fs) name = if is_named f.name name then Some f else function_of fs name
+function_of (f ∷ fs) name = if f.is_external && is_named f.name name then Some f else function_of fs name
 
 abbrev pub is_object_named : Option (List ℕ) → List ℕ → Bool
 is_object_named None name = false

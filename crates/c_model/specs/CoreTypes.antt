@@ -26,8 +26,10 @@ plain form = typed form no_quals
 abbrev pub int_type : CType
 int_type = plain (Integer Int)
 
--- a type without the qualifiers outside of it: that of a value
+-- the unqualified version of a type: that of a value; the qualifiers of an array are those of its elements
+-- (6.7.4.1)
 abbrev pub unqualified : CType → CType
+unqualified (typed (Array type count) quals) = plain (Array (unqualified type) count)
 unqualified (typed form quals) = plain form
 
 abbrev pub pointer_to : CType → CType

@@ -1,7 +1,7 @@
 -- The place at which the nesting of parts passes its limit. A token lies in the parts that are open at it; a part is one
 -- higher than its highest piece; and a chain of operators, of commas or of what follows an operand grows by one at each. It
 -- is stated of any language; of the parser only the count of open parts is proved, by the walk through its own table.
-use Rattle.std.specs.Prelude.{ℕ, ◌+◌, ◌<◌, ◌≤◌, ◌≡◌, max, Bool, true, false, if◌then◌else◌, List, [], ◌∷◌, ◌++◌, length, drop, Option, Some, None, slice_get}
+use Rattle.std.specs.Prelude.{ℕ, ◌+◌, ◌<◌, ◌≡◌, max, Bool, true, false, if◌then◌else◌, List, [], ◌∷◌, ◌++◌, drop, Some, slice_get}
 use mathlib.Core.Logic.{◌⊎◌}
 use Rattle.c_model.specs.declared.grammar.Rule.{Rule}
 use Rattle.c_model.specs.declared.grammar.Rule.TheVariants as r

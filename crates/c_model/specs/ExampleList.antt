@@ -1,6 +1,6 @@
 -- A unit that builds a list on the heap, prints it and frees it, as a core, with what its run has to be.
 use Rattle.std.specs.Prelude.{ℕ, pos, true, false, List, [], ◌∷◌, codes, Some}
-use Rattle.c_model.specs.declared.numbers.Basic.TheVariants.{Char, UnsignedLong}
+use Rattle.c_model.specs.declared.numbers.Basic.TheVariants.{Char, Int, UnsignedLong}
 use Rattle.c_model.specs.declared.numbers.BinOp.TheVariants.{LessEqual}
 use Rattle.c_model.specs.declared.operators.UnaryOp.TheVariants.{Not}
 use Rattle.c_model.specs.declared.marks.Origin.TheVariants.{Implied}
@@ -29,6 +29,13 @@ is_const = record no_quals { has_const = true }
 -- struct node * _Owner _Opt
 abbrev pub node_owner : CType
 node_owner = typed (Pointer node) owner_or_null
+
+-- members of a const struct node
+abbrev pub const_int : CType
+const_int = typed (Integer Int) is_const
+
+abbrev pub const_owner : CType
+const_owner = typed (Pointer node) (record owner_or_null { has_const = true })
 
 -- const struct node *
 abbrev pub node_view : CType
@@ -140,19 +147,25 @@ make_nodes =
     ∷ For no_expr (an_expr (binary LessEqual (load count) (number 3))) (an_expr (increment count)) make_body no_span
     ∷ [])
 
+abbrev pub viewed_value : Lvalue
+viewed_value = Arrow (load view) 0 const_int nowhere no_mark
+
+abbrev pub viewed_next : Lvalue
+viewed_next = Arrow (load view) 1 const_owner nowhere no_mark
+
 -- printf("%d\n", p->value)
 abbrev pub print : Stat
 print =
     evaluate
     (call 1 printf_type
-    (implied text_pointer (Address Implied (variable 16 (plain (Array (plain (Integer Char)) (Some 4)))) no_mark) ∷ load (value_of view) ∷ []))
+    (implied text_pointer (Address Implied (variable 16 (plain (Array (plain (Integer Char)) (Some 4)))) no_mark) ∷ load viewed_value ∷ []))
 
 -- for (const struct node *p = head; p; p = p->next) ..
 abbrev pub print_nodes : Stat
 print_nodes =
     block (15 ∷ [])
     (start 15 node_view (implied node_view (load head))
-    ∷ For no_expr (an_expr (load view)) (an_expr (assigned view (implied node_view (load (next_of view))))) print no_span
+    ∷ For no_expr (an_expr (load view)) (an_expr (assigned view (implied node_view (load viewed_next)))) print no_span
     ∷ [])
 
 abbrev pub main_body : Stat

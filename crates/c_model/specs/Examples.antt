@@ -1,12 +1,12 @@
 -- Units of a few lines as cores, with what their runs have to be: defers, scopes, the order of operands,
 -- function literals and a value that isn't there.
-use Rattle.std.specs.Prelude.{ℕ, false, List, [], ◌∷◌, codes, Some}
+use Rattle.std.specs.Prelude.{ℕ, true, false, List, [], ◌∷◌, codes, Some}
 use Rattle.c_model.specs.declared.numbers.BinOp.TheVariants.{Mul, Add, Less, Equal}
-use Rattle.c_model.specs.declared.outcomes.Cause.TheVariants.{Uninitialised}
+use Rattle.c_model.specs.declared.outcomes.Cause.TheVariants.{Uninitialised, NoValue}
 use Rattle.c_model.specs.Types.{CType}
 use Rattle.c_model.specs.CoreTypes.{int_type, pointer_to}
 use Rattle.c_model.specs.Run.{Run, Event, Returned, Undefined}
-use Rattle.c_model.specs.Core.{Core, Expr, Call, FunctionRef, Load, Object, exprs, Stat, Defer, If, Continue, For, no_expr, an_expr, no_stat, a_stat, Parameter, Lambda}
+use Rattle.c_model.specs.Core.{Core, Expr, Call, FunctionRef, Load, Choice, Object, exprs, Stat, Defer, If, Continue, For, no_expr, an_expr, no_stat, a_stat, Parameter, Lambda}
 use Rattle.c_model.specs.ExampleParts.{at_column, nowhere, mark_of, no_mark, no_span, number, int_variable, variable, load, binary, assigned, call, increment, evaluate, start, block, return, function_type, automatic, stored_as, global_int, function, unit, int_value, called_with}
 
 abbrev pub int_void : CType
@@ -124,3 +124,20 @@ no_value =
 
 abbrev pub without_value : Run
 without_value = record { events = []; moves = []; ending = Undefined Uninitialised (Some (at_column 32 10)) }
+
+-- int f(void) { } int main(void) { 1 ? f() : 0; return 0; }, and the same with f(); in place of the choice
+abbrev pub with_nothing : Expr → Core
+with_nothing e =
+    unit []
+    (function 1 (codes "f") int_void [] (a_stat (block [] []))
+    ∷ function 2 (codes "main") int_void [] (a_stat (block [] (evaluate e ∷ return (number 0) ∷ [])))
+    ∷ [])
+
+abbrev pub call_of_nothing : Expr
+call_of_nothing = Call (FunctionRef 1 int_void true no_mark) (exprs []) (mark_of (at_column 39 16))
+
+abbrev pub chosen_nothing : Expr
+chosen_nothing = Choice (number 1) call_of_nothing (number 0) no_mark
+
+abbrev pub nothing_is_used : Run
+nothing_is_used = record { events = []; moves = []; ending = Undefined NoValue (Some (at_column 39 16)) }

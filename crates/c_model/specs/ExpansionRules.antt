@@ -1,15 +1,13 @@
 -- The rules by which replacement gives its answers, one for each case.
-use Rattle.std.proofs.Common.{◌≡◌, ℕ, zero, suc, ◌+◌, ◌-◌, ◌<◌, ◌≤◌, Bool, true, false, nat_lt, max, List, [], ◌∷◌, ◌++◌, length, map, drop, Option, Some, None, Result, Ok, Err, refl, ap, subst, sym, ◌∙◌, arith, cond}
+use Rattle.std.proofs.Common.{◌≡◌, ℕ, suc, ◌+◌, ◌<◌, ◌≤◌, true, false, nat_lt, max, List, [], ◌∷◌, ◌++◌, length, map, drop, Option, Some, None, Ok, Err, refl, ap, sym, ◌∙◌, arith, cond}
 use Rattle.cake_base.specs.declared.places.Place.{Place}
-use Rattle.cake_base.specs.declared.rules.Fault.{Fault}
 use Rattle.cake_base.specs.declared.rules.Family.TheVariants.{P}
-use Rattle.c_model.specs.PpTokens.{PpToken}
 use Rattle.c_model.specs.HideSets.{holds, with_rank, common}
 use Rattle.c_model.specs.Macros.{Macro, Macros, ranked}
 use Rattle.c_model.specs.MacroArguments.{Painted, Run, Inside, inside, placed, opens, arguments}
 use Rattle.c_model.specs.Substitution.{Argument, Use, unreplaced, written, with_replaced, variable_rank, uses, wanted, substituted}
-use Rattle.c_model.specs.Expansion.{Answer, Stop, broken, passed, Rest, MADE, faulty, too_many, after, keep, cost, Call, replace, finish, fill, call_with, call, at_kind, at_macro, step, within, Expands, Fills}
-use Rattle.c_model.specs.ExpansionSteps.{Below, within-more, fill-up}
+use Rattle.c_model.specs.Expansion.{Answer, Stop, broken, passed, MADE, too_many, after, keep, cost, Call, finish, fill, call_with, call, at_kind, at_macro, step, within, Expands, Fills}
+use Rattle.c_model.specs.ExpansionSteps.{within-more, fill-up}
 
 -- a rule that is broken, and a limit that is passed, as answers
 abbrev pub breaks : Place → ℕ → ℕ → Answer

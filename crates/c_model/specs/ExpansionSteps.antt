@@ -1,11 +1,10 @@
 -- Replacement gives one answer: more steps answer the same.
-use Rattle.std.proofs.Common.{◌≡◌, ℕ, zero, suc, ◌+◌, ◌-◌, ◌<◌, ◌≤◌, Bool, true, false, nat_lt, max, List, [], ◌∷◌, ◌++◌, length, map, drop, Option, Some, None, Result, Ok, Err, refl, ap, subst, sym, ◌∙◌, arith, cond}
-use Rattle.c_model.specs.PpTokens.{PpToken}
+use Rattle.std.proofs.Common.{◌≡◌, ℕ, zero, suc, ◌+◌, true, false, nat_lt, List, [], ◌∷◌, ◌++◌, map, drop, Option, Some, None, Ok, Err, refl, arith, cond}
 use Rattle.c_model.specs.HideSets.{holds, with_rank, common}
 use Rattle.c_model.specs.Macros.{Macro, Macros, ranked}
 use Rattle.c_model.specs.MacroArguments.{Painted, Run, Inside, inside, placed, opens, arguments}
 use Rattle.c_model.specs.Substitution.{Argument, Use, unreplaced, written, with_replaced, variable_rank, uses, wanted, substituted}
-use Rattle.c_model.specs.Expansion.{Answer, Stop, Rest, MADE, faulty, too_many, after, keep, cost, Call, replace, finish, fill, call_with, call, at_kind, at_macro, step, within, Expands, Fills}
+use Rattle.c_model.specs.Expansion.{Answer, Rest, MADE, too_many, after, keep, cost, Call, replace, finish, fill, call_with, call, at_kind, at_macro, step, within, Expands}
 
 -- g answers at least what f answers
 pub record Below (f g : Rest) : Type 0 where

@@ -1,15 +1,14 @@
 -- Replacement always gives an answer: each step takes a token from the list or from what may still be made.
-use Rattle.std.proofs.Common.{◌≡◌, ℕ, zero, suc, ◌+◌, ◌-◌, ◌*◌, ◌<◌, ◌≤◌, ◌⊎◌, inl, inr, Bool, true, false, ◌&&◌, ◌==◌, nat_lt, max, List, [], ◌∷◌, ◌++◌, length, map, drop, length-drop, length-append, Option, Some, None, Result, Ok, Err, refl, ap, subst, sym, ◌∙◌, arith, cond, slice_get, slice_set}
+use Rattle.std.proofs.Common.{◌≡◌, ℕ, zero, suc, ◌+◌, ◌-◌, ◌*◌, ◌<◌, ◌≤◌, ◌⊎◌, inl, inr, true, false, ◌&&◌, ◌==◌, nat_lt, max, List, [], ◌∷◌, ◌++◌, length, map, drop, length-drop, length-append, Option, Some, None, Ok, Err, refl, ap, sym, ◌∙◌, arith, cond, slice_get, slice_set}
 use Rattle.std.proofs.lemmas.List.{length-map}
 use Rattle.cake_base.specs.declared.places.Place.{Place}
-use Rattle.c_model.specs.PpTokens.{PpToken}
 use Rattle.c_model.specs.HideSets.{holds}
 use Rattle.c_model.specs.Macros.{Macro, Macros, ranked, spells}
 use Rattle.c_model.specs.ReplacementLists.{RIGHT, deeper}
 use Rattle.c_model.specs.MacroDefinitions.{COMMA, names_of}
 use Rattle.c_model.specs.MacroArguments.{Painted, Run, Inside, in_front, inside, at_place, placed, onto, parts, is_nil, exact_arguments, variable_arguments, arguments, opens}
 use Rattle.c_model.specs.Substitution.{Argument, Use, unreplaced, written, written_of, with_run, with_replaced, variable_rank, uses, wanted, substituted}
-use Rattle.c_model.specs.Expansion.{Answer, Stop, MADE, cost, Call, Expands, Fills}
+use Rattle.c_model.specs.Expansion.{Answer, MADE, Call, Expands, Fills}
 use Rattle.c_model.specs.ExpansionRules.{breaks, passes, with_front, Fills-unpasted, Fills-past, Fills-body, Fills-other, Fills-stopped, Fills-next, Expands-nil, Stays, Stays-unknown, Stays-hidden, Stays-alone, object_call, Expands-object, Expands-open, function_call, Expands-count, Expands-call}
 
 -- the tokens made, in either case

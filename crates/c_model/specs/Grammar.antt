@@ -1,12 +1,13 @@
 -- The grammar of a translation unit (ISO/IEC 9899:2024, annex A.3, and what the language adds and leaves out). No
--- production looks ahead at tokens: the one test that it has asks the scopes whether a function's parameters stand
--- next to the missing name of a type name.
+-- production looks ahead at tokens but one: `else` belongs to the nearest `if` (6.8.5.2), so the statement of an `if` has
+-- it wherever it comes next. The other test asks the scopes whether a function's parameters stand next to the missing
+-- name of a type name. Where an array may follow attributes, they stand one by one, as `Attrs` has them.
 use Rattle.std.specs.Prelude.{ℕ, Bool, true, false, List, [], ◌∷◌}
 use Rattle.c_model.specs.declared.grammar.Rule.{Rule}
 use Rattle.c_model.specs.declared.grammar.Rule.TheVariants as r
 use Rattle.c_model.specs.declared.grammar.Act.TheVariants as act
 use Rattle.c_model.specs.declared.grammar.Test.TheVariants as test
-use Rattle.c_model.specs.GrammarForm.{Form, word, rule, ◌then◌, ◌or◌, maybe, many, when}
+use Rattle.c_model.specs.GrammarForm.{Form, word, rule, empty, ◌then◌, ◌or◌, maybe, many, when}
 use Rattle.c_model.specs.Terminals as k
 
 -- a token of one kind that is no part of specifiers or of a declarator
@@ -79,18 +80,18 @@ grammar r.Enumr = token k.Name then rule r.Attrs then maybe (token k.Equals then
 grammar r.Declarator =
     many (word (k.Star ∷ []) act.Pointer then rule r.Attrs then many (rule r.Qual)) then rule r.Direct
 grammar r.Direct =
-    (word (k.Name ∷ k.DeclaredName ∷ []) act.DeclaratorName then rule r.Attrs or word (k.OpenParenthesis ∷ []) act.OpenDeclarator then rule r.Declarator then word (k.CloseParenthesis ∷ []) act.CloseDeclarator)
+    (word (k.Name ∷ k.DeclaredName ∷ []) act.DeclaratorName then many (rule r.Attr) or word (k.OpenParenthesis ∷ []) act.OpenDeclarator then rule r.Declarator then word (k.CloseParenthesis ∷ []) act.CloseDeclarator)
     then many (rule r.Suffix)
 grammar r.Suffix =
-    word (k.OpenBracket ∷ []) act.OpenArray then maybe (rule r.Cond) then word (k.CloseBracket ∷ []) act.CloseArray then rule r.Attrs
-    or word (k.OpenParenthesis ∷ []) act.OpenParameters then maybe (rule r.Params) then word (k.CloseParenthesis ∷ []) act.CloseParameters then rule r.Attrs
+    word (k.OpenBracket ∷ []) act.OpenArray then maybe (rule r.Cond) then word (k.CloseBracket ∷ []) act.CloseArray then many (rule r.Attr)
+    or word (k.OpenParenthesis ∷ []) act.OpenParameters then maybe (rule r.Params) then word (k.CloseParenthesis ∷ []) act.CloseParameters then many (rule r.Attr)
 grammar r.Params =
     rule r.Param then many (word (k.Comma ∷ []) act.NextParameter then rule r.Param)
     then maybe (token k.Comma then token k.Ellipsis)
 grammar r.Param = rule r.Attrs then rule r.ParamSpecs then maybe (rule r.Declared or rule r.Abstract)
 grammar r.Typename = rule r.Squals then maybe (rule r.Abstract)
 grammar r.Abstract =
-    word (k.Star ∷ []) act.Pointer then rule r.Attrs then many (rule r.Qual) then maybe (rule r.Abstract)
+    word (k.Star ∷ []) act.Pointer then many (rule r.Attr) then many (rule r.Qual) then maybe (rule r.Abstract)
     or rule r.Adirect
 grammar r.Adirect =
     (word (k.OpenParenthesis ∷ []) act.OpenDeclarator then rule r.Abstract then word (k.CloseParenthesis ∷ []) act.CloseDeclarator or rule r.Suffix)
@@ -161,7 +162,7 @@ grammar r.Typeof =
 grammar r.If =
     token k.If then word (k.OpenParenthesis ∷ []) act.OpenScope then maybe (rule r.Declaration)
     then rule r.Expr then token k.CloseParenthesis then rule r.Statement
-    then maybe (token k.Else then rule r.Statement)
+    then when test.ElseAhead (token k.Else then rule r.Statement) empty
 grammar r.For =
     token k.For then word (k.OpenParenthesis ∷ []) act.OpenScope
     then (rule r.Declaration or maybe (rule r.Expr) then token k.Semicolon) then maybe (rule r.Expr)

@@ -1,6 +1,6 @@
 -- Hide sets: the macros by which a token isn't replaced (ISO/IEC 9899:2024, 6.10.5.5). A macro stands
 -- in a set by its rank in the table.
-use Rattle.std.specs.Prelude.{ℕ, Bool, false, not, ◌==◌, if◌then◌else◌, List, [], ◌∷◌, ◌++◌, filter}
+use Rattle.std.specs.Prelude.{ℕ, Bool, not, ◌==◌, if◌then◌else◌, List, [], ◌∷◌, ◌++◌, filter}
 use Rattle.std.specs.List.{list_any}
 
 -- whether a macro is in a set

@@ -1,5 +1,5 @@
 -- The arguments of a macro call (ISO/IEC 9899:2024, 6.10.5, 6.10.5.1).
-use Rattle.std.specs.Prelude.{ℕ, ◌+◌, ◌-◌, Bool, true, false, ◌&&◌, not, ◌==◌, nat_lt, nat_eq, if◌then◌else◌, List, [], ◌∷◌, ◌++◌, length, map, Option, Some, None, codes}
+use Rattle.std.specs.Prelude.{ℕ, ◌-◌, Bool, true, false, ◌&&◌, ◌==◌, nat_lt, if◌then◌else◌, List, [], ◌∷◌, ◌++◌, length, map, Option, Some, None}
 use Rattle.cake_base.specs.declared.places.Place.{Place}
 use Rattle.c_model.specs.PpTokens.{PpToken}
 use Rattle.c_model.specs.Macros.{Macro, spells}

@@ -40,10 +40,17 @@ is_opening kind = kind == k.OpenParenthesis || kind == k.OpenBracket || kind == 
 abbrev pub closes : ℕ → ℕ → Bool
 closes opening kind = if opening == k.OpenParenthesis then kind == k.CloseParenthesis else if opening == k.OpenBracket then kind == k.CloseBracket else kind == k.CloseBrace
 
+-- the kinds that the scopes give, which no token has of itself
+abbrev pub is_given : ℕ → Bool
+is_given kind = kind == k.TypedefName || kind == k.DeclaredName || kind == k.Closing
+
+abbrev pub own_kind : ℕ → ℕ
+own_kind kind = if is_given kind then k.Stray else kind
+
 -- the kind of a bracket or another token that is no identifier
 abbrev pub bracket_kind : List ℕ → ℕ → ℕ
-bracket_kind [] kind = kind
-bracket_kind (last ∷ _) kind = if is_closing kind then (if closes last kind then k.Closing else k.Stray) else kind
+bracket_kind [] kind = own_kind kind
+bracket_kind (last ∷ _) kind = if is_closing kind then (if closes last kind then k.Closing else k.Stray) else own_kind kind
 
 -- the kind of a token
 abbrev pub kind : Scopes → Terminal → ℕ

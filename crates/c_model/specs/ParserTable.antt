@@ -18,7 +18,7 @@ table r.Declaration = when test.SpecifiersAhead (rule r.Attrs then rule r.Specs 
 table r.Sassert =
     word (k.StaticAssert ∷ k.OldStaticAssert ∷ []) act.Pass then token k.OpenParenthesis then rule r.Cond
     then maybe (token k.Comma then token k.StringLiteral) then token k.CloseParenthesis then token k.Semicolon
-table r.Attrs = loop test.AttributeAhead (rule r.Attr)
+table r.Attrs = many (rule r.Attr)
 table r.Attr =
     word (k.OpenBracket ∷ []) act.Keep then word (k.OpenBracket ∷ []) act.Keep then rule r.Balanced
     then word (k.CloseBracket ∷ []) act.Keep then word (k.CloseBracket ∷ []) act.Keep
@@ -55,11 +55,11 @@ table r.Enumr = token k.Name then rule r.Attrs then maybe (token k.Equals then r
 table r.Declarator =
     many (word (k.Star ∷ []) act.Pointer then rule r.Attrs then many (rule r.Qual)) then rule r.Direct
 table r.Direct =
-    (word (k.Name ∷ k.DeclaredName ∷ []) act.DeclaratorName then rule r.Attrs or word (k.OpenParenthesis ∷ []) act.OpenDeclarator then rule r.Declarator then word (k.CloseParenthesis ∷ []) act.CloseDeclarator)
+    (word (k.Name ∷ k.DeclaredName ∷ []) act.DeclaratorName then loop test.AttributeAhead (rule r.Attr) or word (k.OpenParenthesis ∷ []) act.OpenDeclarator then rule r.Declarator then word (k.CloseParenthesis ∷ []) act.CloseDeclarator)
     then many (rule r.Suffix)
 table r.Suffix =
-    word (k.OpenBracket ∷ []) act.OpenArray then maybe (rule r.Cond) then word (k.CloseBracket ∷ []) act.CloseArray then rule r.Attrs
-    or word (k.OpenParenthesis ∷ []) act.OpenParameters then maybe (rule r.Params) then word (k.CloseParenthesis ∷ []) act.CloseParameters then rule r.Attrs
+    word (k.OpenBracket ∷ []) act.OpenArray then maybe (rule r.Cond) then word (k.CloseBracket ∷ []) act.CloseArray then loop test.AttributeAhead (rule r.Attr)
+    or word (k.OpenParenthesis ∷ []) act.OpenParameters then maybe (rule r.Params) then word (k.CloseParenthesis ∷ []) act.CloseParameters then loop test.AttributeAhead (rule r.Attr)
 table r.Params =
     rule r.Param then loop test.ParameterAhead (word (k.Comma ∷ []) act.NextParameter then rule r.Param)
     then maybe (token k.Comma then token k.Ellipsis)
@@ -68,7 +68,7 @@ table r.Param =
     then maybe (when test.DeclaratorAhead (rule r.Declared) (rule r.Abstract))
 table r.Typename = rule r.Squals then maybe (rule r.Abstract)
 table r.Abstract =
-    word (k.Star ∷ []) act.Pointer then rule r.Attrs then many (rule r.Qual) then maybe (rule r.Abstract)
+    word (k.Star ∷ []) act.Pointer then loop test.AttributeAhead (rule r.Attr) then many (rule r.Qual) then maybe (rule r.Abstract)
     or rule r.Adirect
 table r.Adirect =
     when test.AbstractAhead (word (k.OpenParenthesis ∷ []) act.OpenDeclarator then rule r.Abstract then word (k.CloseParenthesis ∷ []) act.CloseDeclarator) (rule r.Suffix)

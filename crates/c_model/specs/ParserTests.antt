@@ -13,7 +13,7 @@ use Rattle.c_model.specs.Terminals as k
 use Rattle.c_model.specs.GrammarForm.{mem}
 use Rattle.c_model.specs.NameScopes.{Scopes, kind, fresh, is_opening, is_closing, is_type}
 use Rattle.c_model.specs.Derivation.{Language}
-use Rattle.c_model.specs.SyntaxTree.{c_language, has_parameters}
+use Rattle.c_model.specs.SyntaxTree.{c_language, has_parameters, sees_else}
 use Rattle.c_model.specs.ParserTable.{table}
 use Rattle.c_model.specs.ParserSets.{firsts}
 
@@ -248,7 +248,7 @@ passes test.LabelAhead s ts = sees_label (past_attributes 0 ts)
 passes test.CastAhead s ts = sees_cast s ts
 passes test.OperandAhead s ts = not (sees_cast s ts)
 passes test.ParenthesizedExpression s ts = not (sees_type_name s ts)
-passes test.ElseAhead s ts = sees k.Else ts
+passes test.ElseAhead s ts = sees_else ts
 
 -- the language of the parser's table
 abbrev pub parsed : Language

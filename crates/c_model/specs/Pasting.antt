@@ -1,7 +1,6 @@
 -- Tokens that `#`, `##`, `__FILE__` and `__LINE__` make (ISO/IEC 9899:2024, 6.10.5.3, 6.10.5.4, 6.10.10.2).
-use Rattle.std.specs.Prelude.{ℕ, ◌+◌, ◌/◌, ◌%◌, Bool, true, false, ◌&&◌, ◌||◌, not, ◌==◌, nat_lt, if◌then◌else◌, List, [], ◌∷◌, ◌++◌, map, filter, Option, Some, None, Result, Ok, Err, codes, decimal}
+use Rattle.std.specs.Prelude.{ℕ, ◌+◌, ◌/◌, ◌%◌, Bool, true, false, ◌&&◌, ◌||◌, not, ◌==◌, nat_lt, if◌then◌else◌, List, [], ◌∷◌, ◌++◌, filter, Option, Some, None, Result, Ok, Err, decimal}
 use Rattle.std.specs.List.{flat_map}
-use Rattle.cake_base.specs.declared.places.Place.{Place}
 use Rattle.c_model.specs.declared.tokens.PpKind.{PpKind}
 use Rattle.c_model.specs.declared.tokens.PpKind.TheVariants.{Header, Name, Number, Character, Text, Punct, Other}
 use Rattle.cake_base.specs.declared.rules.Fault.{Fault}

@@ -1,6 +1,6 @@
 -- Types that are the same in every part (ISO/IEC 9899:2024, 6.2.7), and constants that are null
 -- (6.3.3.3).
-use Rattle.std.specs.Prelude.{ℕ, nat_eq, ℤ, pos, Bool, true, false, ◌&&◌, not, Option, Some, None, Result, Ok, Err, if◌then◌else◌}
+use Rattle.std.specs.Prelude.{ℕ, nat_eq, ℤ, pos, Bool, true, false, ◌&&◌, ◌||◌, not, Option, Some, None, Result, Ok, Err, if◌then◌else◌}
 use Rattle.std.specs.Ordering.{int_eq}
 use Rattle.c_model.specs.declared.operators.LogicOp.{LogicOp}
 use Rattle.c_model.specs.declared.operators.LogicOp.TheVariants.{And, Or}
@@ -9,7 +9,7 @@ use Rattle.c_model.specs.Operations.{convert, operate, truth}
 use Rattle.c_model.specs.Applied.{on_number}
 use Rattle.c_model.specs.Types.{CType, typed, Form, Void, Integer, Enum, Pointer, Array, Struct, Function, Types, no_types, more_types, form_of_type}
 use Rattle.c_model.specs.Compatible.{same_basic, same_bool, same_quals}
-use Rattle.c_model.specs.CoreTypes.{type_of, basic_of}
+use Rattle.c_model.specs.CoreTypes.{no_quals, type_of, basic_of}
 use Rattle.c_model.specs.Core as unit
 
 abbrev pub same_length : Option ℕ → Option ℕ → Bool
@@ -65,7 +65,18 @@ abbrev pub constant_logic : LogicOp → Option ℤ → ℤ → Option ℤ
 constant_logic And second a = if is_zero a then Some (pos 0) else with_one (λ b. Some (truth (not (is_zero b)))) second
 constant_logic Or second a = if is_zero a then with_one (λ b. Some (truth (not (is_zero b)))) second else Some (pos 1)
 
--- the value of an integer constant expression (6.6), none where it is none or is undefined
+-- built of integer constants by conversions to integer types, operators, `&&`, `||` and `?:` alone, the
+-- parts that aren't evaluated among them
+abbrev pub is_built_of_constants : unit.Expr → Bool
+is_built_of_constants (unit.Constant value type mark) = is_integer (form_of_type type)
+is_built_of_constants (unit.Convert origin type e mark) = is_integer (form_of_type type) && is_built_of_constants e
+is_built_of_constants (unit.Unary op e mark) = is_built_of_constants e
+is_built_of_constants (unit.Binary op a b mark) = is_built_of_constants a && is_built_of_constants b
+is_built_of_constants (unit.Logic op a b mark) = is_built_of_constants a && is_built_of_constants b
+is_built_of_constants (unit.Choice c a b mark) = is_built_of_constants c && is_built_of_constants a && is_built_of_constants b
+is_built_of_constants _ = false
+
+-- the value of an expression that is built so, none where it is undefined in a part that is evaluated
 abbrev pub constant_value : unit.Expr → Option ℤ
 constant_value (unit.Constant value type mark) = if is_integer (form_of_type type) then Some value else None
 constant_value (unit.Convert origin type e mark) =
@@ -77,6 +88,10 @@ constant_value (unit.Logic op a b mark) = with_one (constant_logic op (constant_
 constant_value (unit.Choice c a b mark) = with_one (λ v. if is_zero v then constant_value b else constant_value a) (constant_value c)
 constant_value _ = None
 
+-- the value of an integer constant expression (6.6); none where it isn't one, or is undefined
+abbrev pub integer_constant : unit.Expr → Option ℤ
+integer_constant e = if is_built_of_constants e then constant_value e else None
+
 abbrev pub is_zero_constant : Option ℤ → Bool
 is_zero_constant None = false
 is_zero_constant (Some value) = is_zero value
@@ -85,9 +100,15 @@ abbrev pub is_void_pointer : Form → Bool
 is_void_pointer (Pointer (typed Void quals)) = true
 is_void_pointer _ = false
 
--- a null pointer constant: an integer constant expression of value 0, or one cast to a pointer to void
+-- `void *`, the type of `nullptr`
+abbrev pub is_plain_void_pointer : Form → Bool
+is_plain_void_pointer (Pointer (typed Void quals)) = same_quals quals no_quals
+is_plain_void_pointer _ = false
+
+-- a null pointer constant: `nullptr`, an integer constant expression of value 0, or one cast to `void *`
 abbrev pub is_null_constant : unit.Expr → Bool
-is_null_constant (unit.Constant value type mark) = is_zero value
+is_null_constant (unit.Constant value type mark) = is_zero value && (is_integer (form_of_type type) || is_plain_void_pointer (form_of_type type))
 is_null_constant (unit.Convert origin type e mark) =
-    if is_void_pointer (form_of_type type) then is_zero_constant (constant_value e) else is_zero_constant (constant_value (unit.Convert origin type e mark))
-is_null_constant e = is_zero_constant (constant_value e)
+    if is_plain_void_pointer (form_of_type type) then is_zero_constant (integer_constant e)
+    else is_zero_constant (integer_constant (unit.Convert origin type e mark))
+is_null_constant e = is_zero_constant (integer_constant e)

@@ -68,13 +68,19 @@ first_builtin (b ∷ bs) name type =
 abbrev pub builtin_of : (name : List ℕ) → CType → Option Builtin
 builtin_of = first_builtin (Malloc ∷ Calloc ∷ Free ∷ Exit ∷ Abort ∷ [])
 
+-- char, or an enumeration with that underlying type, which is compatible with it
+abbrev pub is_char : Form → Bool
+is_char (Integer Char) = true
+is_char (Enum Char order) = true
+is_char form = false
+
 -- a string is read at a pointer to const char; in the variable part, at one to char as well
 abbrev pub is_text_parameter : CType → Bool
-is_text_parameter (typed (Pointer (typed (Integer Char) quals)) outer) = quals.has_const
+is_text_parameter (typed (Pointer (typed form quals)) outer) = is_char form && quals.has_const
 is_text_parameter _ = false
 
 abbrev pub is_text_argument : CType → Bool
-is_text_argument (typed (Pointer (typed (Integer Char) quals)) outer) = true
+is_text_argument (typed (Pointer (typed form quals)) outer) = is_char form
 is_text_argument _ = false
 
 -- what the arguments are to an outside function with these parameters

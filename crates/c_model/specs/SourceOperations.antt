@@ -19,8 +19,8 @@ use Rattle.c_model.specs.Memory.{Scalar, Number, Null, Address, Code, Value, Mis
 use Rattle.c_model.specs.Loads.{value_at}
 use Rattle.c_model.specs.Applied.{applied, is_true, truth_value, converted, ToInteger, ToPointer}
 use Rattle.c_model.specs.Accesses.{load_from, store_to}
-use Rattle.c_model.specs.Run.{Act, ◌▷◌, just, ends, given, choose, Undefined}
-use Rattle.c_model.specs.CoreTypes.{object_type, is_pointer, is_void, basic_of, shape_of, step_size}
+use Rattle.c_model.specs.Run.{Act, ◌▷◌, just, ends, given, Undefined}
+use Rattle.c_model.specs.CoreTypes.{object_type, is_pointer, basic_of, shape_of, step_size}
 use Rattle.c_model.specs.SourceMarks.{at_mark, lvalue_mark}
 use Rattle.c_model.specs.SourceFrame.{Frame, Location}
 use Rattle.c_model.specs.Core as unit
@@ -92,10 +92,6 @@ logic Or false second = second ▷ (λ b. just (truth_value (is_true b)))
 
 abbrev pub single : Scalar → Act Value
 single scalar = just (Single scalar)
-
--- one value of two; where the type is void none is used
-abbrev pub chosen : CType → Bool → Act Value → Act Value → Act Value
-chosen type condition first second = if is_void type then choose condition first second ▷ (λ v. just Missing) else choose condition first second
 
 -- the values of a structure's member
 abbrev pub member_value : Frame → Mark → (structure member : CType) → (rank : ℕ) → Value → Act Value

@@ -1,16 +1,16 @@
 -- The values of a unit's expressions and the objects that its lvalues designate (ISO/IEC 9899:2024,
 -- 6.3.3.1, 6.5): operands go from left to right, the left place of an assignment first.
-use Rattle.std.specs.Prelude.{pos, ◌*ℤ◌, List, [], ◌∷◌, if◌then◌else◌}
+use Rattle.std.specs.Prelude.{pos, ◌*ℤ◌, Bool, List, [], ◌∷◌, if◌then◌else◌}
 use Rattle.c_model.specs.declared.marks.Mark.{Mark}
 use Rattle.c_model.specs.Types.{CType, form_of_type}
 use Rattle.c_model.specs.Memory.{Numbered, Block, Scalar, Number, Address, Code, Value, Missing, Single}
 use Rattle.c_model.specs.Applied.{applied_unary, is_true}
 use Rattle.c_model.specs.Accesses.{store_to}
-use Rattle.c_model.specs.Run.{Act, ◌▷◌, just, given, used, scalar_of}
+use Rattle.c_model.specs.Run.{Act, ◌▷◌, just, given, choose, used, scalar_of}
 use Rattle.c_model.specs.CoreTypes.{type_of, object_type, types_of, int_type, basic_of, shape_of, element_size, pointee, is_void}
 use Rattle.c_model.specs.SourceFrame.{Frame, Location, block_of}
 use Rattle.c_model.specs.SourceMarks.{expr_mark, lvalue_mark, at_mark, tested_at}
-use Rattle.c_model.specs.SourceOperations.{pointed, further, counted, member_at, constant, to_value, load_object, store_object, operated_on, step_op, by_side, logic, single, chosen, member_value, stepped}
+use Rattle.c_model.specs.SourceOperations.{pointed, further, counted, member_at, constant, to_value, load_object, store_object, operated_on, step_op, by_side, logic, single, member_value, stepped}
 use Rattle.c_model.specs.Core as unit
 
 -- the scalar that an expression has to have
@@ -24,6 +24,11 @@ needed e m = m ▷ used (at_mark (expr_mark e))
 -- a value converted to a type; where that is void, none is used
 abbrev pub converted_value : CType → unit.Expr → Act Value → Act Value
 converted_value type e m = if is_void type then m ▷ (λ v. just Missing) else needed e m ▷ (λ v. just (to_value type v))
+
+-- one value of two, which is used; where the type is void none is
+abbrev pub chosen : CType → (first second : unit.Expr) → Bool → Act Value → Act Value → Act Value
+chosen type a b condition first second =
+    if is_void type then choose condition first second ▷ (λ v. just Missing) else choose condition (needed a first) (needed b second)
 
 -- what a pointer points to: it is tested when the place is made
 abbrev pub followed : unit.Expr → Mark → Act Value → Act Location
@@ -47,7 +52,7 @@ abbrev mutual
       operand a (evaluate f a) ▷ (λ x. operand b (evaluate f b) ▷ (λ y. operated_on f op mark (type_of a) (type_of b) x y ▷ single))
   evaluate f (unit.Logic op a b mark) = operand a (evaluate f a) ▷ (λ x. logic op (is_true x) (operand b (evaluate f b)) ▷ single)
   evaluate f (unit.Choice condition a b mark) =
-      operand condition (evaluate f condition) ▷ (λ x. chosen (type_of a) (is_true x) (evaluate f a) (evaluate f b))
+      operand condition (evaluate f condition) ▷ (λ x. chosen (type_of a) a b (is_true x) (evaluate f a) (evaluate f b))
   evaluate f (unit.Convert origin type a mark) = converted_value type a (evaluate f a)
   evaluate f (unit.Call function arguments mark) =
       operand function (evaluate f function)

@@ -4,19 +4,25 @@ use Rattle.std.specs.Prelude.{Bool, true, false, ◌&&◌, ◌||◌, is_some}
 use Rattle.c_model.specs.declared.numbers.BinOp.TheVariants.{Add, Sub}
 use Rattle.c_model.specs.Types.{form_of_type}
 use Rattle.c_model.specs.CoreTypes.{is_pointer}
-use Rattle.c_model.specs.SameTypes.{is_null_constant, constant_value}
+use Rattle.c_model.specs.SameTypes.{is_null_constant, integer_constant}
 use Rattle.c_model.specs.Core as unit
 
 abbrev pub is_integer_constant : unit.Expr → Bool
-is_integer_constant e = is_some (constant_value e)
+is_integer_constant e = is_some (integer_constant e)
+
+-- a null pointer, through pointer casts
+abbrev pub is_null_pointer : unit.Expr → Bool
+is_null_pointer (unit.Constant value type mark) = is_pointer (form_of_type type)
+is_null_pointer (unit.Convert origin type e mark) = is_pointer (form_of_type type) && (is_null_pointer e || is_null_constant e)
+is_null_pointer _ = false
 
 abbrev mutual
-  -- the address of a function, or of an object of static storage
+  -- the address of a function, or of an object, at a constant offset; in a static object's values only
+  -- objects of static storage are in scope
   pub is_address : unit.Expr → Bool
   is_address (unit.FunctionRef id type by_name mark) = true
   is_address (unit.Address origin object mark) = is_static_place object
-  is_address (unit.Convert origin type e mark) = is_pointer (form_of_type type) && (is_address e || is_null_constant e)
-  is_address (unit.Constant value type mark) = is_pointer (form_of_type type)
+  is_address (unit.Convert origin type e mark) = is_pointer (form_of_type type) && is_address e
   is_address (unit.Binary Add a b mark) = (is_address a && is_integer_constant b) || (is_integer_constant a && is_address b)
   is_address (unit.Binary Sub a b mark) = is_address a && is_integer_constant b
   is_address _ = false
@@ -32,4 +38,4 @@ abbrev mutual
 
 abbrev pub are_constant : unit.Initials → Bool
 are_constant unit.no_initials = true
-are_constant (unit.more_initials path offset type e others) = (is_integer_constant e || is_address e) && are_constant others
+are_constant (unit.more_initials path offset type e others) = (is_integer_constant e || is_null_pointer e || is_address e) && are_constant others

@@ -15,8 +15,13 @@ is_integer_constant names e = is_some (constant_of names e)
 abbrev pub decays : Names → text.Expr → Bool
 decays names e = is_array (type_of names e) || is_function (type_of names e)
 
+-- a null pointer, through pointer casts
+abbrev pub is_null_pointer : Names → text.Expr → Bool
+is_null_pointer names (text.Cast type e) = is_pointer type && (is_null_pointer names e || is_null_constant names e)
+is_null_pointer names e = false
+
 abbrev mutual
-  -- the address of a function or of an object of static storage
+  -- the address of a function or of an object of static storage, at a constant offset
   pub is_address : Names → text.Expr → Bool
   is_address names (text.Name name) = decays names (text.Name name)
   is_address names (text.Index a b) =
@@ -26,7 +31,7 @@ abbrev mutual
   is_address names (text.Arrow pointer name) = decays names (text.Arrow pointer name) && is_address names pointer
   is_address names (text.Unary text.AddressOf e) = is_function (type_of names e) || is_static_place names e
   is_address names (text.Unary text.Deref e) = decays names (text.Unary text.Deref e) && is_address names e
-  is_address names (text.Cast type e) = is_pointer type && (is_address names e || is_null_constant names e)
+  is_address names (text.Cast type e) = is_pointer type && is_address names e
   is_address names (text.Binary Add a b) = (is_address names a && is_integer_constant names b) || (is_integer_constant names a && is_address names b)
   is_address names (text.Binary Sub a b) = is_address names a && is_integer_constant names b
   is_address names e = false
@@ -40,4 +45,4 @@ abbrev mutual
   is_static_place names e = false
 
 abbrev pub is_constant : Names → text.Expr → Bool
-is_constant names e = is_integer_constant names e || is_address names e
+is_constant names e = is_integer_constant names e || is_null_pointer names e || is_address names e

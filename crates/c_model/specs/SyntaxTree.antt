@@ -1,11 +1,12 @@
 -- The trees of the grammar, and the language that the grammar gives: its trees are the derivations.
-use Rattle.std.specs.Prelude.{Bool, true, false, List, Option, Some, None}
+use Rattle.std.specs.Prelude.{Bool, true, false, ◌==◌, List, [], ◌∷◌, Option, Some, None}
 use Rattle.c_model.specs.declared.grammar.Test.{Test}
 use Rattle.c_model.specs.declared.grammar.Test.TheVariants as test
 use Rattle.c_model.specs.declared.grammar.Terminal.{Terminal}
 use Rattle.c_model.specs.declared.grammar.Entry.{Entry}
 use Rattle.c_model.specs.declared.grammar.Tree.{Tree}
 use Rattle.c_model.specs.declared.grammar.Tree.TheVariants as tree
+use Rattle.c_model.specs.Terminals as k
 use Rattle.c_model.specs.NameScopes.{Scopes, kind, after, close}
 use Rattle.c_model.specs.Derivation.{Language}
 use Rattle.c_model.specs.Grammar.{grammar, is_part}
@@ -15,9 +16,15 @@ abbrev pub has_parameters : Option (List Entry) → Bool
 has_parameters (Some entries) = true
 has_parameters None = false
 
--- the one test of the grammar, which asks the scopes alone
+-- `else` comes next
+abbrev pub sees_else : List Terminal → Bool
+sees_else [] = false
+sees_else (t ∷ ts) = t.kind == k.Else
+
+-- the tests of the grammar
 abbrev pub asks : Test → Scopes → List Terminal → Bool
 asks test.HasParameters s ts = has_parameters s.reading.held
+asks test.ElseAhead s ts = sees_else ts
 asks _ s ts = false
 
 -- the language of translation units (ISO/IEC 9899:2024, 6.9)

@@ -1,12 +1,13 @@
 -- What the expressions of a C89 program have to be (ISO/IEC 9899:1990, 6.2.2, 6.3, 6.5), with the types of the
 -- names in scope.
-use Rattle.std.specs.Prelude.{Bool, true, false, ◌&&◌, ◌||◌, not, List, is_some, if◌then◌else◌}
+use Rattle.std.specs.Prelude.{ℕ, zero, suc, Bool, true, false, ◌&&◌, ◌||◌, not, List, length, Option, Some, None, is_some, if◌then◌else◌}
+use Rattle.std.specs.List.{list_any}
 use Rattle.c_model.specs.declared.numbers.BinOp.{BinOp}
 use Rattle.c_model.specs.declared.numbers.BinOp.TheVariants.{Add, Sub, Less, Greater, LessEqual, GreaterEqual, Equal, NotEqual}
-use Rattle.c_model.specs.Types89.{Type89, Based, Pointer, Array, Function}
+use Rattle.c_model.specs.Types89.{Struct, Type89, Based, Pointer, Array, Function}
 use Rattle.c_model.specs.Compatible89.{compatible}
 use Rattle.c_model.specs.SameTypes.{is_zero_constant}
-use Rattle.c_model.specs.TargetLayout.{layout_of}
+use Rattle.c_model.specs.TargetLayout.{layout_of, members_in}
 use Rattle.c_model.specs.TargetTypes.{Names, type_of, value_type, integer_type, is_pointer, pointee}
 use Rattle.c_model.specs.TargetValues.{is_place, is_void, is_function}
 use Rattle.c_model.specs.Constants89.{constant_of}
@@ -36,6 +37,27 @@ has_const type = false
 
 abbrev pub is_complete : List text.Structure → Type89 → Bool
 is_complete structures type = is_some (layout_of structures type)
+
+-- const, or with const elements or members; of structures it is given
+abbrev pub holds_const : (List ℕ → Bool) → Type89 → Bool
+holds_const given (Based is_const (Struct name)) = is_const || given name
+holds_const given (Based is_const base) = is_const
+holds_const given (Pointer is_const to) = is_const
+holds_const given (Array count of) = holds_const given of
+holds_const given type = false
+
+abbrev pub members_hold_const : (List ℕ → Bool) → Option (List text.Declaration) → Bool
+members_hold_const given None = false
+members_hold_const given (Some members) = list_any (λ m. holds_const given m.type) members
+
+-- a structure, where structures lie in one another at most this deep
+abbrev pub struct_holds_const : (depth : ℕ) → List text.Structure → (name : List ℕ) → Bool
+struct_holds_const zero structures name = false
+struct_holds_const (suc depth) structures name = members_hold_const (struct_holds_const depth structures) (members_in structures name)
+
+-- an object of the type isn't assigned to: it is const, or a member at any depth is (6.2.2.1)
+abbrev pub is_const_somewhere : List text.Structure → Type89 → Bool
+is_const_somewhere structures = holds_const (struct_holds_const (length structures) structures)
 
 -- two pointers to compatible types, const of these aside
 abbrev pub alike : Type89 → Type89 → Bool
@@ -74,16 +96,20 @@ can_move structures type = is_object_pointer type && is_complete structures (poi
 abbrev pub both_integers : Type89 → Type89 → Bool
 both_integers left right = is_integer left && is_integer right
 
+-- pointers to objects, to compatible types (6.3.8)
+abbrev pub are_ordered : Type89 → Type89 → Bool
+are_ordered left right = is_object_pointer left && alike left right
+
 -- the operands of a binary operator, with whether they are null constants
 abbrev pub takes : List text.Structure → BinOp → (left_null right_null : Bool) → Type89 → Type89 → Bool
 takes structures Add m n left right =
     both_integers left right || (can_move structures left && is_integer right) || (is_integer left && can_move structures right)
 takes structures Sub m n left right =
     both_integers left right || (can_move structures left && is_integer right) || (can_move structures left && alike left right)
-takes structures Less m n left right = both_integers left right || alike left right
-takes structures Greater m n left right = both_integers left right || alike left right
-takes structures LessEqual m n left right = both_integers left right || alike left right
-takes structures GreaterEqual m n left right = both_integers left right || alike left right
+takes structures Less m n left right = both_integers left right || are_ordered left right
+takes structures Greater m n left right = both_integers left right || are_ordered left right
+takes structures LessEqual m n left right = both_integers left right || are_ordered left right
+takes structures GreaterEqual m n left right = both_integers left right || are_ordered left right
 takes structures Equal m n left right = both_integers left right || meet m n left right
 takes structures NotEqual m n left right = both_integers left right || meet m n left right
 takes structures op m n left right = both_integers left right
@@ -109,9 +135,12 @@ casts is_null from to =
     || (is_object_pointer from && is_object_pointer to)
     || (is_function_pointer from && is_function_pointer to)
 
--- the two values of a choice
+-- the two values of a choice: integers, a pointer and an integer that is a null constant, or values of one
+-- type, which is that of the choice; pointers to other types want a cast here
 abbrev pub joins : (first_null second_null : Bool) → Type89 → Type89 → Bool
-joins m n first second = both_integers first second || meet m n first second || (not (is_scalar first) && compatible first second)
+joins m n first second =
+    both_integers first second || (is_pointer first && is_integer second && n) || (is_integer first && m && is_pointer second)
+    || (not (is_integer first) && compatible first second)
 
 abbrev pub prefix_fits : Names → text.Prefix → text.Expr → Bool
 prefix_fits names text.Minus e = is_integer (value_type names e)

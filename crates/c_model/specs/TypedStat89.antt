@@ -10,7 +10,7 @@ use Rattle.c_model.specs.TargetLayout.{member_of}
 use Rattle.c_model.specs.TargetTypes.{Names, find_name, type_of, value_type, pointee, integer_type, basic_or_int}
 use Rattle.c_model.specs.TargetValues.{is_place, is_void}
 use Rattle.c_model.specs.Constants89.{constant_value}
-use Rattle.c_model.specs.TypedParts89.{is_integer, is_scalar, is_array, has_const, is_complete, is_null_constant, takes, assigns, casts, joins, prefix_fits, index_fits, result_fits}
+use Rattle.c_model.specs.TypedParts89.{is_integer, is_scalar, is_array, is_const_somewhere, is_complete, is_null_constant, takes, assigns, casts, joins, prefix_fits, index_fits, result_fits}
 use Rattle.c_model.specs.Program89 as text
 
 abbrev pub arguments_fit : Names → Types89 → (is_variadic : Bool) → text.Exprs → Bool
@@ -60,7 +60,7 @@ abbrev mutual
 -- an object that can be assigned to
 abbrev pub is_modifiable : Names → text.Expr → Bool
 is_modifiable names e =
-    is_place e && not (has_const (type_of names e)) && not (is_array (type_of names e)) && is_complete names.structures (type_of names e)
+    is_place e && not (is_const_somewhere names.structures (type_of names e)) && not (is_array (type_of names e)) && is_complete names.structures (type_of names e)
 
 abbrev pub assignment_fits : Names → (to : Type89) → text.Expr → Bool
 assignment_fits names to e = has_type names e && assigns (is_null_constant names e) (value_type names e) to

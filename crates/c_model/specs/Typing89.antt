@@ -1,10 +1,12 @@
 -- When a C89 program is typed (ISO/IEC 9899:1990, 6.1.2, 6.5, 6.7): each name is declared before its use, the
--- objects of a function have names of their own, and what is defined is complete and defined once.
+-- objects of a function have names of their own, declarations of one name agree in linkage, and what is
+-- defined is complete and defined once.
 use Rattle.std.specs.Prelude.{◌≡◌, ℕ, ◌+◌, Bool, true, false, ◌&&◌, ◌||◌, not, List, [], ◌∷◌, Option, Some, None, if◌then◌else◌, nat_le, nat_lt, length}
 use Rattle.std.specs.List.{list_all}
 use Rattle.std.specs.Str.{bytes_eq}
 use Rattle.c_model.specs.Types89.{Base, Void, Struct, Type89, Based, Pointer, Array, Function as FunctionType, Types89, no_types, more_types}
 use Rattle.c_model.specs.Types89 as type
+use Rattle.c_model.specs.Compatible.{same_bool}
 use Rattle.c_model.specs.Compatible89.{compatible}
 use Rattle.c_model.specs.TargetTypes.{Names, find_name}
 use Rattle.c_model.specs.TargetFrame.{locals, is_declared, file_names, outer_names, defines}
@@ -35,12 +37,12 @@ abbrev pub is_parameter : Type89 → Bool
 is_parameter type = not (is_array type) && not (is_function type) && not (is_void type) && not (is_const_pointer type)
 
 abbrev mutual
-  -- a type has structures that are declared, elements that are objects, results that are values, and const
+  -- a type has structures that are declared, complete elements, results that are values, and const
   -- of a pointer only behind a pointer
   pub type_fits : List text.Structure → Type89 → Bool
   type_fits structures (Based is_const base) = base_fits structures base
   type_fits structures (Pointer is_const to) = type_fits structures to
-  type_fits structures (Array count of) = type_fits structures of && not (is_function of) && not (is_void of)
+  type_fits structures (Array count of) = type_fits structures of && is_complete structures of
   type_fits structures (FunctionType result parameters is_variadic) =
       type_fits structures result && not (is_array result) && not (is_function result) && not (is_const_pointer result) && types_fit structures parameters
 
@@ -109,7 +111,7 @@ agrees type (Some other) = compatible type other
 
 abbrev pub outer_fits : Names → text.Outer → Bool
 outer_fits names o =
-    declared_fits names.structures o.type && agrees o.type (find_name names.declared o.name)
+    declared_fits names.structures o.type && not (is_void o.type) && agrees o.type (find_name names.declared o.name)
     && (if defines o && not (is_function o.type) then is_complete names.structures o.type else true)
     && value_fits (record names { declared = record { type = o.type; name = o.name } ∷ names.declared }) o.type o.init
 
@@ -151,9 +153,37 @@ functions_fit program names (g ∷ gs) =
     && function_fits program (record names { declared = record { type = text.function_type g; name = g.name } ∷ names.declared }) g
     && functions_fit program (record names { declared = record { type = text.function_type g; name = g.name } ∷ names.declared }) gs
 
+abbrev pub is_static : text.Storage → Bool
+is_static text.Static = true
+is_static storage = false
+
+-- the declarations of a name are static, or none of them is (6.1.2.2)
+abbrev pub has_linkage : (static : Bool) → (name : List ℕ) → List text.Outer → Bool
+has_linkage static name [] = true
+has_linkage static name (o ∷ os) = (if bytes_eq o.name name then same_bool (is_static o.storage) static else true) && has_linkage static name os
+
+abbrev pub has_value : Option text.Init → Bool
+has_value None = false
+has_value (Some init) = true
+
+abbrev pub is_valued : (name : List ℕ) → List text.Outer → Bool
+is_valued name [] = false
+is_valued name (o ∷ os) = bytes_eq o.name name && has_value o.init || is_valued name os
+
+-- declarations of one name agree in linkage, and one of them has a value at most; a static function is
+-- defined (6.7)
+abbrev pub linkage_fits : List text.Function → List text.Outer → Bool
+linkage_fits functions [] = true
+linkage_fits functions (o ∷ os) =
+    has_linkage (is_static o.storage) o.name os && not (has_value o.init && is_valued o.name os)
+    && (if is_static o.storage && is_function o.type then is_function_of functions o.name else true)
+    && linkage_fits functions os
+
 abbrev pub is_typed : text.Program → Bool
 is_typed program =
-    structures_fit [] program.structures
+    linkage_fits program.functions program.outers
+    && list_all (λ g. has_linkage g.is_static g.name program.outers) program.functions
+    && structures_fit [] program.structures
     && outers_fit (record { structures = program.structures; declared = [] }) program.outers
     && functions_fit program (record { structures = program.structures; declared = outer_names program.outers }) program.functions
 

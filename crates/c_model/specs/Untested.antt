@@ -1,5 +1,5 @@
--- A table without its tests of the tokens ahead: both alternatives stand where such a test chooses. A test of the
--- scopes alone stays.
+-- A table without its tests of the tokens ahead: both alternatives stand where such a test chooses. The tests that the
+-- grammar has stay.
 use Rattle.c_model.specs.declared.grammar.Test.{Test}
 use Rattle.c_model.specs.declared.grammar.Test.TheVariants as test
 use Rattle.c_model.specs.GrammarForm.{Form, word, rule, empty, ◌then◌, ◌or◌, maybe, many, when, loop}
@@ -12,6 +12,7 @@ either f g = f or g
 -- what a test chose between
 unfoldable pub open_choice : Test → Form → Form → Form
 open_choice test.HasParameters f g = when test.HasParameters f g
+open_choice test.ElseAhead f g = when test.ElseAhead f g
 open_choice _ f g = either f g
 
 unfoldable pub untested : Form → Form

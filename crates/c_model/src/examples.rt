@@ -1,13 +1,17 @@
 //! Runs of small units, which the checker computes: each function does nothing, and its contract is
 //! what the run of a unit is.
-ghost use Rattle.std.specs.Prelude.{◌≡◌, true, pos, [], ◌∷◌, codes};
-ghost use Rattle.c_model.specs.SourceRun.{run23};
+ghost use Rattle.std.specs.Prelude.{◌≡◌, true, false, pos, [], ◌∷◌, codes};
+ghost use Rattle.std.specs.List.{list_all};
+ghost use Rattle.c_model.specs.Memory.{Heap};
+ghost use Rattle.c_model.specs.SourceRun.{run23, ended23};
 ghost use Rattle.c_model.specs.TypedCore.{is_typed_core};
-ghost use Rattle.c_model.specs.Examples.{loop_with_defer, written_by_loop, deferred_assignment, hidden_name, load_before_call, function_literal, no_value, without_value, returned};
+ghost use Rattle.c_model.specs.Examples.{loop_with_defer, written_by_loop, deferred_assignment, hidden_name, load_before_call, function_literal, no_value, without_value, returned, with_nothing, call_of_nothing, chosen_nothing, nothing_is_used};
 ghost use Rattle.c_model.specs.Typing89.{is_typed};
 ghost use Rattle.c_model.specs.TargetRun.{run89};
 ghost use Rattle.c_model.specs.ExampleTexts.{writes_bytes, prints_node, printed};
 ghost use Rattle.c_model.specs.ExampleList.{list_of_nodes, with_memory, without_memory};
+ghost use Rattle.c_model.specs.ExampleReleases.{freed_in_loop, dead_in_loop, no_loop, freed_twice, released_twice, nothing_to_free, never_freed, asks_for_owner};
+ghost use Rattle.c_model.specs.Ownership.{Misuse, left_by, keeps_promise};
 
 /// A deferred call runs at the end of each round, also where `continue` ends it.
 pub fn defers_run_in_each_round()
@@ -40,10 +44,42 @@ pub fn uninitialised_object_is_undefined()
     ensures { run23 100 no_value (codes "main") [] [] ≡ without_value }
 {}
 
+/// The missing value of a call is used where it is chosen, and not where it is dropped.
+pub fn chosen_value_is_used()
+    ensures chosen { run23 100 (with_nothing chosen_nothing) (codes "main") [] [] ≡ nothing_is_used }
+    ensures dropped { run23 100 (with_nothing call_of_nothing) (codes "main") [] [] ≡ returned [] 0 }
+{}
+
 /// A list is built on the heap, printed and freed, or not built where there is no memory.
 pub fn list_is_printed_and_freed()
     ensures built { run23 100 list_of_nodes (codes "main") [] (pos 1 ∷ pos 1 ∷ pos 1 ∷ []) ≡ with_memory }
     ensures refused { run23 100 list_of_nodes (codes "main") [] [] ≡ without_memory }
+{}
+
+/// An owner that a loop frees is dead in its second round, and the first use of it there is the end.
+pub fn freed_owner_is_dead_in_next_round()
+    ensures dead { run23 100 freed_in_loop (codes "main") [] (pos 1 ∷ []) ≡ dead_in_loop }
+    ensures misuse { Misuse freed_in_loop dead_in_loop.ending }
+    ensures refused { run23 100 freed_in_loop (codes "main") [] [] ≡ no_loop }
+{}
+
+/// An owner that is freed twice ends the run at the second call.
+pub fn second_release_is_bad()
+    ensures bad { run23 100 freed_twice (codes "main") [] (pos 1 ∷ []) ≡ released_twice }
+    ensures misuse { Misuse freed_twice released_twice.ending }
+    ensures refused { run23 100 freed_twice (codes "main") [] [] ≡ nothing_to_free }
+{}
+
+/// A list that is freed leaves nothing owned, and an owner that isn't freed is left.
+pub fn unfreed_owner_is_left()
+    ensures freed { left_by (ended23 100 list_of_nodes (codes "main") [] (pos 1 ∷ pos 1 ∷ pos 1 ∷ [])) ≡ [] }
+    ensures left { left_by (ended23 100 never_freed (codes "main") [] (pos 1 ∷ [])) ≡ Heap 1 ∷ [] }
+{}
+
+/// An outside function that promises an owner and answers null isn't honest.
+pub fn null_for_sure_owner_is_dishonest()
+    ensures null { list_all (keeps_promise asks_for_owner) (run23 100 asks_for_owner (codes "main") [] []).events ≡ false }
+    ensures handle { list_all (keeps_promise asks_for_owner) (run23 100 asks_for_owner (codes "main") [] (pos 7 ∷ [])).events ≡ true }
 {}
 
 /// The units of this file are typed.
@@ -55,6 +91,10 @@ pub fn units_are_typed()
     ensures literal { is_typed_core function_literal ≡ true }
     ensures uninitialised { is_typed_core no_value ≡ true }
     ensures list { is_typed_core list_of_nodes ≡ true }
+    ensures rounds { is_typed_core freed_in_loop ≡ true }
+    ensures releases { is_typed_core freed_twice ≡ true }
+    ensures unfreed { is_typed_core never_freed ≡ true }
+    ensures owner { is_typed_core asks_for_owner ≡ true }
 {}
 
 /// A text that writes the bytes of the first unit, and is typed.

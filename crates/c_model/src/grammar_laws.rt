@@ -1,5 +1,5 @@
 //! The laws of the grammar: each is the contract of a function that does nothing.
-ghost use Rattle.std.specs.Prelude.{◌≡◌, true, List};
+ghost use Rattle.std.specs.Prelude.{◌≡◌, true, List, []};
 ghost use Rattle.c_model.specs.declared.grammar.Rule.{Rule};
 ghost use Rattle.c_model.specs.declared.grammar.Rule.TheVariants as r;
 ghost use Rattle.c_model.specs.declared.grammar.Terminal.{Terminal};
@@ -10,7 +10,7 @@ ghost use Rattle.c_model.specs.GrammarForm.{rule};
 ghost use Rattle.c_model.specs.NameScopes.{Scopes, start};
 ghost use Rattle.c_model.specs.SyntaxTree.{c_language};
 ghost use Rattle.c_model.specs.Grammar.{grammar};
-ghost use Rattle.c_model.specs.OpenPrimary.{open_primary};
+ghost use Rattle.c_model.specs.OpenTable.{opened};
 ghost use Rattle.c_model.specs.Untested.{untested};
 ghost use Rattle.c_model.specs.ParserSets.{tables};
 ghost use Rattle.c_model.specs.ParserTable.{table};
@@ -47,14 +47,31 @@ pub fn untested_table_is_grammar()
     ensures { (rule : Rule) → untested (table rule) ≡ grammar rule }
 {}
 
-/// The test at the parenthesis of a primary expression loses no derivation.
-#[tactic(auto, using(crate::proofs::RegainPrimary::regain_unit))]
-pub fn primary_test_loses_nothing()
-    ensures { (ts : List Terminal) (xs : List Tree) (new : Scopes) (rest : List Terminal) → Derives open_primary (rule r.Unit) start ts xs new rest → Derives parsed (rule r.Unit) start ts xs new rest }
+/// The tests that the open table leaves out lose no unit.
+#[tactic(auto, using(crate::proofs::RegainUnit::whole))]
+pub fn tests_lose_no_unit()
+    ensures { (ts : List Terminal) (xs : List Tree) (new : Scopes) → Derives opened (rule r.Unit) start ts xs new [] → (ys : List Tree) × Derives parsed (rule r.Unit) start ts ys new [] }
 {}
 
-/// Nor does it lose a beginning.
-#[tactic(auto, using(crate::proofs::RegainPrimary::regain_begun_unit))]
-pub fn primary_test_loses_no_front()
-    ensures { (ts rest : List Terminal) → Begins open_primary (rule r.Unit) start ts rest → Begins parsed (rule r.Unit) start ts rest }
+/// Nor do they lose a front of a unit.
+#[tactic(auto, using(crate::proofs::RegainUnit::front))]
+pub fn tests_lose_no_front()
+    ensures { (ts rest : List Terminal) → Begins opened (rule r.Unit) start ts rest → Begins parsed (rule r.Unit) start ts rest }
+{}
+
+/// They add no unit, and no tree.
+#[tactic(auto, using(crate::proofs::RegainUnit::unit_back))]
+pub fn tests_add_no_unit()
+    ensures { (ts : List Terminal) (xs : List Tree) (new : Scopes) (rest : List Terminal) → Derives parsed (rule r.Unit) start ts xs new rest → Derives opened (rule r.Unit) start ts xs new rest }
+{}
+
+/// Nor do they add a front.
+#[tactic(auto, using(crate::proofs::RegainUnit::front_back))]
+pub fn tests_add_no_front()
+    ensures { (ts rest : List Terminal) → Begins parsed (rule r.Unit) start ts rest → Begins opened (rule r.Unit) start ts rest }
+{}
+
+#[tactic(auto, using(crate::proofs::ScannedSpecifiers::probe))]
+pub fn temporary()
+    ensures { true ≡ true }
 {}

@@ -8,6 +8,10 @@ ghost use Rattle.c_model.specs.Memory.{Single, Number};
 ghost use Rattle.c_model.specs.Run.{Returned, Undefined};
 ghost use Rattle.c_model.specs.SourceRun.{run23};
 ghost use Rattle.c_model.specs.TargetRun.{run89};
+ghost use Rattle.c_model.specs.Core.{Core};
+ghost use Rattle.c_model.specs.TypedCore.{TypedCore};
+ghost use Rattle.c_model.specs.declared.tokens.CTok.{CTok};
+ghost use Rattle.c_model.specs.FirstUnit.{IsUnit};
 ghost use Rattle.c_model.specs.PpTokens.{PpToken, tokens_of};
 ghost use Rattle.c_model.specs.CTokens.{c_tokens_of};
 ghost use Rattle.c_model.specs.Verdict.{IsCore, IsVerdictOn};
@@ -44,6 +48,11 @@ pub fn seven_returns_7()
 pub fn seven_is_written()
     ensures reads { Reads89 seven_written seven_program }
     ensures runs { (world : List ℤ) → run89 1 seven_program (codes "main") [] world ≡ record { events = []; moves = []; ending = Returned (Single (Number (pos 7))) } }
+{}
+
+/// The core of every first unit is typed.
+pub fn first_unit_is_typed()
+    ensures { (ts : List CTok) (core : Core) → IsUnit ts core → TypedCore core }
 {}
 
 /// A sum past the greatest int is a unit, and its run is undefined at the operator.

@@ -4,8 +4,11 @@
 //! shares with them, and the laws of the definitions.
 #![tactic(auto)]
 
+pub mod condition_laws;
+pub mod conditions;
 pub mod constants;
 pub mod directives;
+pub mod declarations;
 pub mod examples;
 pub mod flow;
 pub mod grammar;
@@ -21,7 +24,10 @@ pub mod outcomes;
 pub mod positions;
 pub mod runs;
 pub mod steps;
+pub mod syntax;
+pub mod syntax_laws;
 pub mod token_laws;
 pub mod tokens;
+pub mod typed_examples;
 pub mod types;
 pub mod words;

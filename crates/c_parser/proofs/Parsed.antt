@@ -12,6 +12,7 @@ use Rattle.c_model.specs.ParserTests.{parsed}
 use Rattle.c_model.proofs.DecidedGrammar.{unique, sound, begun, read_so_far, refuted, ended, first_fault, no_longer, behind, deep_so_far}
 use Rattle.c_model.proofs.ParserDecided.{quiet, checked}
 use Rattle.c_model.proofs.Forget.{forget_unit, forget_begun_unit}
+use Rattle.c_model.proofs.RegainUnit.{open_fault}
 use Rattle.c_parser.specs.declared.reader.Reader.{Reader}
 use Rattle.c_parser.specs.declared.reader.Stop.{Stop}
 use Rattle.c_parser.specs.declared.reader.Stop.TheVariants as stop
@@ -46,12 +47,12 @@ faults d ts rest p =
     let h = subst (λ z. Begins parsed unit start ts z) (behind tables parsed quiet checked b) b in
     record {
       begun = forget_begun_unit ts _ h;
-      first = record {
+      first = open_fault ts _ (record {
         within = omega arith;
         begun = h;
         no_more = λ z e. at_least (length z) (length ts) (length rest) (λ k. first_fault tables parsed quiet checked p (0 ∷ []) before_end e k) l;
         not_whole = λ xs new k. refuted tables parsed quiet checked p (0 ∷ []) before_end k (at_end new);
-      };
+      });
     }
 
 more_left : (d : ℕ) (ts rest : List Terminal) (xs : List Tree) (new : Scopes) → Reads tables parsed d unit start ts xs new rest → 0 < length rest → IsFault ts (length ts - length rest)
@@ -61,12 +62,12 @@ more_left d ts rest xs new p n =
     let h = subst (λ z. Begins parsed unit start ts z) (behind tables parsed quiet checked b) b in
     record {
       begun = forget_begun_unit ts _ h;
-      first = record {
+      first = open_fault ts _ (record {
         within = omega arith;
         begun = h;
         no_more = λ z k. at_least (length z) (length ts) (length rest) (λ h. ended tables parsed quiet checked p (0 ∷ []) before_end k h) l;
         not_whole = λ ys s k. ended tables parsed quiet checked p (0 ∷ []) before_end (begun tables parsed quiet checked k) n;
-      };
+      });
     }
 
 nil_of : (ts : List Terminal) → length ts ≡ 0 → ts ≡ []

@@ -1,5 +1,6 @@
 -- What `parse` answers. That the tree is one of the grammar, and that the tokens before a fault are begun, is said of the
--- grammar itself; that there is no other tree, and that no longer front is begun, of the parser's table.
+-- grammar itself; that there is no other tree, of the parser's table; that the tokens are no unit and that no longer front
+-- is begun, of that table without the tests that are proved to lose nothing.
 use Rattle.std.specs.Prelude.{ℕ, ◌≤◌, List, [], length, drop, Result, Ok, Err}
 use Rattle.c_parser.specs.declared.unit.Refusal.{Refusal}
 use Rattle.c_parser.specs.declared.unit.Refusal.TheVariants as refusal
@@ -14,6 +15,7 @@ use Rattle.c_model.specs.SyntaxTree.{c_language}
 use Rattle.c_model.specs.ParserWalk.{Deepens}
 use Rattle.c_model.specs.ParserSets.{tables}
 use Rattle.c_model.specs.ParserTests.{parsed}
+use Rattle.c_model.specs.OpenTable.{opened}
 
 abbrev pub unit : Form
 unit = rule r.Unit
@@ -24,10 +26,10 @@ pub record IsUnit (ts : List Terminal) (xs : List Tree) : Type 0 where
   pub derived : Derives c_language unit start ts xs scopes []
   pub alone : IsWhole parsed unit start ts xs
 
--- the grammar begins a unit by the tokens before k, and the parser's table by no more
+-- the grammar begins a unit by the tokens before k, and the open table by no more
 pub record IsFault (ts : List Terminal) (k : ℕ) : Type 0 where
   pub begun : Begins c_language unit start ts (drop k ts)
-  pub first : FaultsAt parsed unit start ts k
+  pub first : FaultsAt opened unit start ts k
 
 -- the tokens before k begin a unit, and the token there is met in too many parts
 pub record IsTooDeep (ts : List Terminal) (k : ℕ) : Type 0 where

@@ -186,7 +186,10 @@ pub const SASSERT: &Form = &Form::Then(
     ),
 );
 
-pub const ATTRS: &Form = &Form::Loop(Test::AttributeAhead, &Form::Rule(Rule::Attr));
+pub const ATTRS: &Form = &Form::Many(&Form::Rule(Rule::Attr));
+
+/// Attributes where an array declarator may come behind them.
+const NEAR_ATTRS: &Form = &Form::Loop(Test::AttributeAhead, &Form::Rule(Rule::Attr));
 
 pub const ATTR: &Form = &Form::Then(
     &Form::Word(&[kinds::OPEN_BRACKET], Act::Keep),
@@ -394,7 +397,7 @@ pub const DIRECT: &Form = &Form::Then(
     &Form::Or(
         &Form::Then(
             &Form::Word(&[kinds::NAME, kinds::DECLARED_NAME], Act::DeclaratorName),
-            &Form::Rule(Rule::Attrs),
+            NEAR_ATTRS,
         ),
         &Form::Then(
             &Form::Word(&[kinds::OPEN_PARENTHESIS], Act::OpenDeclarator),
@@ -414,7 +417,7 @@ pub const SUFFIX: &Form = &Form::Or(
             &Form::Maybe(&Form::Rule(Rule::Cond)),
             &Form::Then(
                 &Form::Word(&[kinds::CLOSE_BRACKET], Act::CloseArray),
-                &Form::Rule(Rule::Attrs),
+                NEAR_ATTRS,
             ),
         ),
     ),
@@ -424,7 +427,7 @@ pub const SUFFIX: &Form = &Form::Or(
             &Form::Maybe(&Form::Rule(Rule::Params)),
             &Form::Then(
                 &Form::Word(&[kinds::CLOSE_PARENTHESIS], Act::CloseParameters),
-                &Form::Rule(Rule::Attrs),
+                NEAR_ATTRS,
             ),
         ),
     ),
@@ -468,7 +471,7 @@ pub const ABSTRACT: &Form = &Form::Or(
     &Form::Then(
         &Form::Word(&[kinds::STAR], Act::Pointer),
         &Form::Then(
-            &Form::Rule(Rule::Attrs),
+            NEAR_ATTRS,
             &Form::Then(
                 &Form::Many(&Form::Rule(Rule::Qual)),
                 &Form::Maybe(&Form::Rule(Rule::Abstract)),

@@ -99,6 +99,17 @@ fn closes(opening: u8, kind: u8) -> bool
     }
 }
 
+/// The kind of a token by itself; a kind that only the scopes give is none.
+fn own_kind(kind: u8) -> u8
+    ensures { result ≡ spec.own_kind kind }
+{
+    if kind == kinds::TYPEDEF_NAME || kind == kinds::DECLARED_NAME || kind == kinds::CLOSING {
+        kinds::STRAY
+    } else {
+        kind
+    }
+}
+
 impl Names {
     /// The scope of the file, with no names.
     pub fn new(alloc: Global) -> Names
@@ -139,7 +150,7 @@ impl Names {
         ensures { result ≡ spec.bracket_kind self.now.brackets kind }
     {
         match self.brackets.top() {
-            None => kind,
+            None => own_kind(kind),
             Some(last) => {
                 if is_closing(kind) {
                     if closes(*last, kind) {
@@ -148,7 +159,7 @@ impl Names {
                         kinds::STRAY
                     }
                 } else {
-                    kind
+                    own_kind(kind)
                 }
             }
         }

@@ -81,7 +81,7 @@ layout_push xs x e s = λ i. struct_layout (count_push xs x e i) (λ (r : Struct
 -- ---- names of structures that are there
 
 mutual
-  names_more : (m n : ℕ) → m ≤ n → (t : CType) → names_below m t ≡ true → names_below n t ≡ true
+  pub names_more : (m n : ℕ) → m ≤ n → (t : CType) → names_below m t ≡ true → names_below n t ≡ true
   names_more m n h (typed f q) e = form_names_more m n h f e
 
   form_names_more : (m n : ℕ) → m ≤ n → (f : Form) → form_names_below m f ≡ true → form_names_below n f ≡ true
@@ -128,7 +128,7 @@ closed_push xs x h e =
 
 -- ---- a structure completed
 
-length_completed : (xs : List Structure) (k : ℕ) (ms : List Member) → length (completed xs k ms) ≡ length xs
+pub length_completed : (xs : List Structure) (k : ℕ) (ms : List Member) → length (completed xs k ms) ≡ length xs
 length_completed [] k ms = refl
 length_completed (x ∷ xs) zero ms = refl
 length_completed (x ∷ xs) (suc k) ms = ap suc (length_completed xs k ms)

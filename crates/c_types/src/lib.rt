@@ -18,6 +18,6 @@ pub use compat::compatible;
 pub use integers::{common, fits, highest, is_signed, lowest, promoted, width};
 pub use layout::{align_of, is_complete, member_offset, size_of};
 pub use members::Members;
-pub use operations::{OpFault, const_op, convert};
+pub use operations::{OpFault, const_op, convert, is_comparison, operand_type};
 pub use structs::Structs;
 pub use types::{CType, TypeForm, TypeList};

@@ -345,7 +345,8 @@ fn is_shift(op: BinOp) -> bool
     }
 }
 
-fn is_comparison(op: BinOp) -> bool
+/// Whether the operator compares, so that its result has type int (6.5.9, 6.5.10).
+pub fn is_comparison(op: BinOp) -> bool
     ensures { result ≡ c.is_comparison op }
 {
     match op {
@@ -359,7 +360,9 @@ fn is_comparison(op: BinOp) -> bool
     }
 }
 
-fn operand_type(op: BinOp, left: Basic, right: Basic) -> Basic
+/// The type in which an operation on operands of these types is done: a shift's is that of its
+/// promoted left operand, and another operation's is their common type (6.3.2.8, 6.5.8).
+pub fn operand_type(op: BinOp, left: Basic, right: Basic) -> Basic
     ensures { result ≡ c.operand_type op left right }
 {
     if is_shift(op) {

@@ -105,6 +105,16 @@ impl CType {
         self.quals
     }
 
+    /// The type of the same form with these qualifiers.
+    pub fn with_quals(&self, _alloc: Global, quals: Quals) -> Result<CType, NoMemory>
+        ensures { IfOk result (λ made. made ≡ m.typed (m.form_of_type self.now) quals) }
+    {
+        match self.form.clone() {
+            Ok(form) => Ok(CType { form, quals }),
+            Err(_) => Err(NoMemory),
+        }
+    }
+
     /// An equal type.
     pub fn copy(&self, _alloc: Global) -> Result<CType, NoMemory>
         ensures { IfOk result (λ made. made ≡ self.now) }

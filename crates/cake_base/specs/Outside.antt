@@ -41,9 +41,9 @@ abbrev pub HasDistinctNames : Option Held → Type 0
 HasDistinctNames None = Unit {0}
 HasDistinctNames (Some held) = AreDistinct held
 
--- one call more, where the number is told before and after
+-- one call more, where the number is told before and after; where it isn't told before, it isn't after
 abbrev pub OneMore : Option ℕ → Option ℕ → Type 0
-OneMore None after = Unit {0}
+OneMore None after = after ≡ None
 OneMore (Some before) None = Unit {0}
 OneMore (Some before) (Some after) = after ≡ before + 1
 

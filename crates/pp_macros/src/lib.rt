@@ -16,6 +16,7 @@ mod spelling;
 mod substitution;
 mod table;
 
+pub use constraints::is_reserved;
 pub use definition::{MacroDef, read_macro};
 pub use errors::MacroError;
 pub use expansion::{Work, expand};

@@ -1,0 +1,237 @@
+-- The test that tells a parameter's declarator from an abstract one loses nothing.
+use Rattle.std.proofs.Common.{Option, Some, None, arith, ◌-◌, ◌≡◌, ℕ, suc, ◌+◌, length, Bool, true, false, not, ◌&&◌, ◌||◌, List, [], ◌∷◌, ◌++◌, refl, sym, ap, subst, ◌∙◌}
+use Rattle.std.proofs.lemmas.Bool.{eqb-true}
+use Rattle.std.specs.Prelude.{◌==◌, if◌then◌else◌}
+use mathlib.Core.Logic.{◌⊎◌, inl, inr}
+use Rattle.c_model.specs.declared.grammar.Rule.{Rule}
+use Rattle.c_model.specs.declared.grammar.Rule.TheVariants as r
+use Rattle.c_model.specs.declared.grammar.Act.TheVariants as act
+use Rattle.c_model.specs.declared.grammar.Test.TheVariants as test
+use Rattle.c_model.specs.declared.grammar.Terminal.{Terminal}
+use Rattle.c_model.specs.declared.grammar.Entry.{Entry}
+use Rattle.c_model.specs.declared.grammar.Before.{Before}
+use Rattle.c_model.specs.declared.grammar.Before.TheVariants.{AtStart, BehindStar, BehindQualifier, Inside}
+use Rattle.c_model.specs.declared.grammar.Tree.{Tree}
+use Rattle.c_model.specs.declared.grammar.Tree.TheVariants as tree
+use Rattle.c_model.specs.GrammarForm.{Form, word, rule, when, maybe, many, loop, ◌then◌, ◌or◌, mem}
+use Rattle.c_model.specs.Grammar.{grammar, token}
+use Rattle.c_model.specs.Terminals as k
+use Rattle.c_model.specs.NameScopes.{Scopes, kind, after, is_type, is_closing, is_given, closes, bracket_kind}
+use Rattle.c_model.specs.Derivation.{Derives, Begins}
+use Rattle.c_model.specs.DecidedTable.{nullable, first, within, apart}
+use Rattle.c_model.specs.ParserWalk.{ahead}
+use Rattle.c_model.specs.OpenTable.{open_table}
+use Rattle.c_model.specs.ParserTable.{table}
+use Rattle.c_model.specs.ParserSets.{tables, firsts, follows, hollow}
+use Rattle.c_model.specs.ParserTests.{parsed, passes, sees, sees_attribute, names_declarator, declarator_step, inside_step, outside_step, is_name, declares, is_qualifier, goes_on}
+use Rattle.c_model.proofs.KindSets.{apart_mem, within_mem, clash, or_cases, or_right}
+use Rattle.c_model.proofs.DecidedGrammar.{entry, begun}
+use Rattle.c_model.proofs.ParserDecided.{quiet, checked}
+use Rattle.c_model.proofs.TokenKinds.{is_it, absent, raw, decide, own, shown}
+use Rattle.c_model.proofs.ClearBrackets.{is_balanced, clear, parsed_clear}
+use Rattle.c_model.proofs.ScannedAttributes.{over_attributes, IsPassed}
+use Rattle.c_model.proofs.ScannedDeclarators.{is_inside, is_star, is_behind, IsAt, at_star, at_parenthesis, at_other, IsStill, over_many, over_loop, IsAfter, over_qualifiers}
+use Rattle.c_model.proofs.RegainAbstract.{IsLittle, choice, inner, listed, listed_begun, choice_begun, choice_derived, in_array, array, no_bracket, attribute_begun, Shuts, only_parenthesis, closed, by_array}
+use Rattle.c_model.proofs.BehindAttributes.{missing, no_attribute, attribute_seen}
+use Rattle.c_model.proofs.RegainTable.{IsRegained, IsDerived, Clear, begins_with, starts}
+
+pub star : (s : Scopes) (t : Terminal) → mem (kind s t) (74 ∷ []) ≡ true → (t.kind == 74) ≡ true
+unfolding mem
+star s t h = is_it 74 (refl, refl, refl, refl, refl) s t h
+
+pub parenthesis : (s : Scopes) (t : Terminal) → mem (kind s t) (66 ∷ []) ≡ true → (t.kind == 66) ≡ true
+unfolding mem
+parenthesis s t h = is_it 66 (refl, refl, refl, refl, refl) s t h
+
+-- a `*`, its attributes and its qualifiers
+abbrev pub pointer : Form
+pointer = word (k.Star ∷ []) act.Pointer then rule r.Attrs then many (rule r.Qual)
+
+pub behind_star : (base : Scopes) (before : Before) (s : Scopes) (t : Terminal) → IsAt before base s → IsAt BehindStar base (after act.Pointer s t)
+unfolding is_inside
+behind_star base before s t a = record { outside = refl; typed = refl; entries = a.entries; parameter = a.parameter; clear = a.clear }
+
+pub moved : (base : Scopes) (before : Before) (s new : Scopes) → new ≡ s → IsAt before base s → IsAt before base new
+moved base before s new q a = subst (λ z. IsAt before base z) (sym q) a
+
+-- where the scan of some pointers ends
+pub record IsFurther (before : Before) (base new : Scopes) (ts rest : List Terminal) : Type 0 where
+  pub behind : Before
+  pub at : IsAt behind base new
+  pub same : names_declarator before base ts ≡ names_declarator behind base rest
+
+pub over_pointer : (base : Scopes) (before : Before) {s new : Scopes} {ts rest : List Terminal} {xs : List Tree} → IsAt before base s → Derives parsed pointer s ts xs new rest → IsFurther before base new ts rest
+unfolding table is_behind
+over_pointer base before {s = s} a (Derives.both (Derives.a_word {t = t} {ts = us} e) (Derives.both {mid = mid} (Derives.a_rule d) m p) q) =
+    let b = behind_star base before s t a in
+    let o = over_many base b.clear d in
+    let z = over_qualifiers base BehindStar refl (moved base BehindStar (after act.Pointer s t) mid o.state b) m in
+    record { behind = z.behind; at = z.at; same = at_star before base t us a.outside (star s t e) ∙ (o.scanned ∙ z.same) }
+
+pub over_pointers : (base : Scopes) (before : Before) {s new : Scopes} {ts rest : List Terminal} {xs : List Tree} → IsAt before base s → Derives parsed (many pointer) s ts xs new rest → IsFurther before base new ts rest
+over_pointers base before a Derives.stop = record { behind = before; at = a; same = refl }
+over_pointers base before a (Derives.turn d e _) =
+    let p = over_pointer base before a d in
+    let q = over_pointers base p.behind p.at e in
+    record { behind = q.behind; at = q.at; same = p.same ∙ q.same }
+
+pub inside_parenthesis : (base : Scopes) (before : Before) (s : Scopes) (t : Terminal) → IsAt before base s → IsAt (AtStart false) base (after act.OpenDeclarator s t)
+unfolding is_inside
+inside_parenthesis base before s t a = record { outside = refl; typed = ap not a.parameter; entries = a.entries; parameter = a.parameter; clear = a.clear }
+
+-- a name of the declarator
+alone_kind : (g : Bool) (j : ℕ) → (g ≡ false → mem j (111 ∷ 113 ∷ []) ≡ false) → mem (if g then 117 else j) (111 ∷ 113 ∷ []) ≡ false
+unfolding mem
+alone_kind true j h = refl
+alone_kind false j h = h refl
+
+two_kinds : (c d g : Bool) (j : ℕ) → (g ≡ false → mem j (111 ∷ 113 ∷ []) ≡ false) → mem (if c then (if d then 116 else 117) else (if g then 117 else j)) (111 ∷ 113 ∷ []) ≡ false
+unfolding mem
+two_kinds true true g j h = refl
+two_kinds true false g j h = refl
+two_kinds false d true j h = refl
+two_kinds false d false j h = h refl
+
+-- no token but a name is of a name's kind
+ungiven : (j : ℕ) → (j == 111) ≡ false → is_given j ≡ false → mem j (111 ∷ 113 ∷ []) ≡ false
+unfolding mem
+ungiven j h g = rw (h, third (j == 112) (j == 113) (j == 116) g) refl
+  where
+    third : (a b c : Bool) → ((a || b) || c) ≡ false → b ≡ false
+    third true b c h = absurd (cc)
+    third false true c h = absurd (cc)
+    third false false c h = refl
+
+no_own : (bs : List ℕ) (j : ℕ) → (j == 111) ≡ false → mem (bracket_kind bs j) (111 ∷ 113 ∷ []) ≡ false
+no_own [] j h = alone_kind (is_given j) j (ungiven j h)
+no_own (last ∷ bs) j h = two_kinds (is_closing j) (closes last j) (is_given j) j (ungiven j h)
+
+of_name : (b x y : Bool) (j : ℕ) → (b ≡ false → mem j (111 ∷ 113 ∷ []) ≡ false) → mem (if b then (if x then (if y then 113 else 112) else 111) else j) (111 ∷ 113 ∷ []) ≡ true → (b && (not x || y)) ≡ true
+unfolding mem
+of_name true true true j n h = refl
+of_name true true false j n h = absurd (cc)
+of_name true false y j n h = refl
+of_name false x y j n h = absurd (clash _ h (n refl))
+
+named : (base : Scopes) (before : Before) (s : Scopes) (t : Terminal) → IsAt before base s → mem (kind s t) (111 ∷ 113 ∷ []) ≡ true → is_name before base t ≡ true
+named base before s t a e =
+    let p : (t.kind == 111 && (not (is_type s.entries t.name) || s.reading.typed)) ≡ true = of_name (t.kind == 111) (is_type s.entries t.name) s.reading.typed (bracket_kind s.brackets t.kind) (no_own s.brackets t.kind) e in
+    subst (λ z. (t.kind == 111 && (not (is_type z t.name) || declares before)) ≡ true) a.entries (subst (λ z. (t.kind == 111 && (not (is_type s.entries t.name) || z)) ≡ true) a.typed p)
+
+-- the other way, what is no name of a declarator
+unnamed : (F : List ℕ) (b x y : Bool) (j : ℕ) → mem 111 F ≡ false → mem 113 F ≡ false → mem (if b then (if x then (if y then 113 else 112) else 111) else j) F ≡ true → (b && (not x || y)) ≡ false
+unnamed F true true true j m n h = absurd (clash _ h n)
+unnamed F true true false j m n h = refl
+unnamed F true false y j m n h = absurd (clash _ h m)
+unnamed F false x y j m n h = refl
+
+no_name : (F : List ℕ) (base : Scopes) (before : Before) (s : Scopes) (t : Terminal) → mem 111 F ≡ false → mem 113 F ≡ false → s.reading.typed ≡ declares before → s.entries ≡ base.entries → mem (kind s t) F ≡ true → is_name before base t ≡ false
+no_name F base before s t m n typed entries e =
+    let p : (t.kind == 111 && (not (is_type s.entries t.name) || s.reading.typed)) ≡ false = unnamed F (t.kind == 111) (is_type s.entries t.name) s.reading.typed (bracket_kind s.brackets t.kind) m n e in
+    subst (λ z. (t.kind == 111 && (not (is_type z t.name) || declares before)) ≡ false) entries (subst (λ z. (t.kind == 111 && (not (is_type s.entries t.name) || z)) ≡ false) typed p)
+
+and_false : (a : Bool) → (a && false) ≡ false
+and_false true = refl
+and_false false = refl
+
+-- a token that is none of a declarator's base ones but its name
+ends : (F : List ℕ) (base : Scopes) (before : Before) (s : Scopes) (t : Terminal) (ts : List Terminal) → is_inside before ≡ false → mem 74 F ≡ false → mem 66 F ≡ false → mem 116 F ≡ false → mem 117 F ≡ false → mem (kind s t) F ≡ true → (is_behind before && is_qualifier t.kind) ≡ false → (is_star before && sees_attribute (t ∷ ts)) ≡ false → names_declarator before base (t ∷ ts) ≡ is_name before base t
+ends F base before s t ts o a b c d e q g = at_other before base t ts o (absent F 74 refl a c d s t e) (absent F 66 refl b c d s t e) q g
+
+no_qualifier : (t : Terminal) (n : ℕ) → t.kind ≡ n → is_qualifier n ≡ false → is_qualifier t.kind ≡ false
+no_qualifier t n q h = rw q h
+
+other_end : (F : List ℕ) (base : Scopes) (before : Before) (s : Scopes) (t : Terminal) (ts : List Terminal) → IsAt before base s → mem 74 F ≡ false → mem 66 F ≡ false → mem 68 F ≡ false → mem 116 F ≡ false → mem 117 F ≡ false → mem (kind s t) F ≡ true → is_qualifier t.kind ≡ false → names_declarator before base (t ∷ ts) ≡ is_name before base t
+other_end F base before s t ts a x y z c d e q =
+    ends F base before s t ts a.outside x y c d e (rw q (and_false (is_behind before))) (rw (no_attribute (t ∷ ts) (absent F 68 refl z c d s t e)) (and_false (is_star before)))
+
+-- a name is no qualifier
+name_kind : (base : Scopes) (before : Before) (t : Terminal) → is_name before base t ≡ true → (t.kind == 111) ≡ true
+name_kind base before t h = left (t.kind == 111) _ h
+  where
+    left : (a b : Bool) → (a && b) ≡ true → a ≡ true
+    left true b h = refl
+    left false b h = h
+
+pub name_found : (base : Scopes) (before : Before) (s : Scopes) (t : Terminal) (ts : List Terminal) → IsAt before base s → mem (kind s t) (111 ∷ 113 ∷ []) ≡ true → names_declarator before base (t ∷ ts) ≡ true
+unfolding mem firsts
+name_found base before s t ts a e =
+    let n = named base before s t a e in
+    let q : t.kind ≡ 111 = eqb-true t.kind 111 (name_kind base before t n) in
+    other_end (111 ∷ 113 ∷ []) base before s t ts a refl refl refl refl refl e (no_qualifier t 111 q refl) ∙ n
+
+pub declarator_named : (base : Scopes) (before : Before) {s new : Scopes} {ts rest : List Terminal} {xs : List Tree} → IsAt before base s → Derives parsed (rule r.Declarator) s ts xs new rest → names_declarator before base ts ≡ true
+unfolding table is_inside
+declarator_named base before a (Derives.a_rule (Derives.both {mid = mid} m (Derives.a_rule (Derives.both (Derives.left (Derives.both (Derives.a_word {t = t} {ts = us} e) d p)) c q)) z)) =
+    let w = over_pointers base before a m in
+    w.same ∙ name_found base w.behind mid t us w.at e
+declarator_named base before a (Derives.a_rule (Derives.both {mid = mid} m (Derives.a_rule (Derives.both (Derives.right (Derives.both (Derives.a_word {t = t} {ts = us} e) (Derives.both d f p) x)) c q)) z)) =
+    let w = over_pointers base before a m in
+    w.same ∙ (at_parenthesis w.behind base t us w.at.outside (parenthesis mid t e) ∙ declarator_named base (AtStart false) (inside_parenthesis base w.behind mid t w.at) d)
+
+abbrev pub first_of : Form → List ℕ
+first_of f = first tables f
+
+-- what ends an abstract declarator
+plain_end : apart tables (64 ∷ 67 ∷ []) (firsts r.Qual) ≡ true
+unfolding apart mem firsts
+plain_end = refl
+
+at_end : (base : Scopes) (before : Before) (s : Scopes) (ts : List Terminal) → IsAt before base s → mem (ahead tables parsed s ts) (64 ∷ 67 ∷ []) ≡ true → names_declarator before base ts ≡ false
+unfolding ahead mem
+at_end base before s [] a h = absurd (clash _ h refl)
+at_end base before s (t ∷ ts) a e =
+    let n = raw (64 ∷ 67 ∷ []) (refl, refl, refl, refl, refl) s t e in
+    let q = decide (is_qualifier t.kind) (λ z. apart_mem tables t.kind (64 ∷ 67 ∷ []) (firsts r.Qual) plain_end n z) in
+    other_end (64 ∷ 67 ∷ []) base before s t ts a refl refl refl refl refl e q ∙ no_name (64 ∷ 67 ∷ []) base before s t refl refl a.typed a.entries e
+
+pub closing_end : (s : Scopes) (t : Terminal) → mem (kind s t) (67 ∷ []) ≡ true → mem (kind s t) (64 ∷ 67 ∷ []) ≡ true
+unfolding mem
+closing_end s t h = or_right (kind s t == 64) _ h
+
+-- an array ends the scan
+pub array_ends : (base : Scopes) (before : Before) (s : Scopes) (t : Terminal) (ts : List Terminal) → IsAt before base s → mem (kind s t) (68 ∷ []) ≡ true → (is_star before && sees_attribute (t ∷ ts)) ≡ false → names_declarator before base (t ∷ ts) ≡ false
+unfolding mem firsts
+array_ends base before s t ts a e g =
+    let q : t.kind ≡ 68 = eqb-true t.kind 68 (is_it 68 (refl, refl, refl, refl, refl) s t e) in
+    ends (68 ∷ []) base before s t ts a.outside refl refl refl refl e (rw (no_qualifier t 68 q refl) (and_false (is_behind before))) g ∙ no_name (68 ∷ []) base before s t refl refl a.typed a.entries e
+
+pub second_bracket : (t : Terminal) (us : List Terminal) → sees 68 us ≡ false → sees_attribute (t ∷ us) ≡ false
+second_bracket t [] h = refl
+second_bracket t (u ∷ us) h = rw h (and_false (t.kind == 68))
+
+pub no_attribute_there : (before : Before) (ts : List Terminal) → sees_attribute ts ≡ false → (is_star before && sees_attribute ts) ≡ false
+no_attribute_there before ts h = rw h (and_false (is_star before))
+
+-- parameters end it
+start_ends : (F : List ℕ) (base : Scopes) (s : Scopes) (ts : List Terminal) → mem 0 F ≡ false → mem 74 F ≡ false → mem 66 F ≡ false → mem 116 F ≡ false → mem 117 F ≡ false → mem 111 F ≡ false → mem 113 F ≡ false → s.reading.typed ≡ false → s.entries ≡ base.entries → mem (ahead tables parsed s ts) F ≡ true → names_declarator (AtStart false) base ts ≡ false
+unfolding ahead is_inside is_behind is_star
+start_ends F base s [] z a b c d m n y x h = absurd (clash _ h z)
+start_ends F base s (t ∷ ts) z a b c d m n y x h = ends F base (AtStart false) s t ts refl a b c d h refl refl ∙ no_name F base (AtStart false) s t m n y x h
+
+pub listed_ends : (base : Scopes) (s : Scopes) (ts : List Terminal) → s.reading.typed ≡ false → s.entries ≡ base.entries → mem (ahead tables parsed s ts) (first_of listed) ≡ true → names_declarator (AtStart false) base ts ≡ false
+unfolding mem firsts first nullable
+listed_ends base s ts y x h = start_ends (first_of listed) base s ts refl refl refl refl refl refl refl y x h
+
+pub listed_moves : nullable tables listed ≡ false
+unfolding nullable
+listed_moves = refl
+
+pub abstract_unnamed : (base : Scopes) (before : Before) {s new : Scopes} {ts rest : List Terminal} {xs : List Tree} → IsAt before base s → Derives parsed (rule r.Abstract) s ts xs new rest → mem (ahead tables parsed new rest) (64 ∷ 67 ∷ []) ≡ true → names_declarator before base ts ≡ false
+unfolding table is_inside is_behind ahead
+abstract_unnamed base before {s = s} {new = new} {rest = rest} a (Derives.a_rule (Derives.left (Derives.both (Derives.a_word {t = t} {ts = us} e) (Derives.both {mid = mid} l (Derives.both q Derives.skip x) y) z))) h =
+    let b = behind_star base before s t a in
+    let o = over_loop base b.clear l in
+    let w = over_qualifiers base BehindStar refl (moved base BehindStar (after act.Pointer s t) mid o.state b) q in
+    at_star before base t us a.outside (star s t e) ∙ (o.scanned ∙ (w.same ∙ at_end base w.behind new rest w.at h))
+abstract_unnamed base before {s = s} a (Derives.a_rule (Derives.left (Derives.both (Derives.a_word {t = t} {ts = us} e) (Derives.both {mid = mid} l (Derives.both q (Derives.take d) x) y) z))) h =
+    let b = behind_star base before s t a in
+    let o = over_loop base b.clear l in
+    let w = over_qualifiers base BehindStar refl (moved base BehindStar (after act.Pointer s t) mid o.state b) q in
+    at_star before base t us a.outside (star s t e) ∙ (o.scanned ∙ (w.same ∙ abstract_unnamed base w.behind w.at d h))
+abstract_unnamed base before {s = s} a (Derives.a_rule (Derives.right (Derives.a_rule (Derives.both (Derives.chosen b (Derives.both (Derives.a_word {t = t} {ts = us} e) (Derives.both {mid = mid} d (Derives.a_word {t = v} c) x) y)) m z)))) h =
+    at_parenthesis before base t us a.outside (parenthesis s t e) ∙ abstract_unnamed base (AtStart false) (inside_parenthesis base before s t a) d (closing_end mid v c)
+abstract_unnamed base before {s = s} a (Derives.a_rule (Derives.right (Derives.a_rule (Derives.both (Derives.other b (Derives.a_rule (Derives.left (Derives.both (Derives.a_word {t = t} {ts = us} e) d y)))) m z)))) h =
+    array_ends base before s t us a e (no_attribute_there before (t ∷ us) (second_bracket t us (in_array d)))
+abstract_unnamed base before {s = s} a (Derives.a_rule (Derives.right (Derives.a_rule (Derives.both (Derives.other b (Derives.a_rule (Derives.right (Derives.both (Derives.a_word {t = t} {ts = us} e) d y)))) m z)))) h =
+    at_parenthesis before base t us a.outside (parenthesis s t e) ∙ listed_ends base (after act.OpenParameters s t) us refl a.entries (starts listed_moves d)

@@ -1,0 +1,33 @@
+-- The parser's table with its tests of the tokens ahead left out of the productions that are named here: there the
+-- grammar's production stands, in which either alternative may be taken wherever it derives or begins what comes.
+use Rattle.std.specs.Prelude.{[], ◌∷◌}
+use Rattle.c_model.specs.declared.grammar.Rule.{Rule}
+use Rattle.c_model.specs.declared.grammar.Rule.TheVariants as r
+use Rattle.c_model.specs.declared.grammar.Act.TheVariants as act
+use Rattle.c_model.specs.declared.grammar.Test.TheVariants as test
+use Rattle.c_model.specs.GrammarForm.{Form, word, rule, ◌then◌, maybe, many, when}
+use Rattle.c_model.specs.Terminals as k
+use Rattle.c_model.specs.Derivation.{Language}
+use Rattle.c_model.specs.Grammar.{grammar, token}
+use Rattle.c_model.specs.ParserTable.{table}
+use Rattle.c_model.specs.ParserTests.{parsed}
+
+-- an enumeration with its enumerators
+abbrev pub enumerators : Form
+enumerators = maybe (word (k.Name ∷ k.TypedefName ∷ []) act.TypeSpecifier) then maybe (token k.Colon then rule r.Squals) then token k.OpenBrace then rule r.Enumr then many (token k.Comma then rule r.Enumr) then maybe (token k.Comma) then word (k.CloseBrace ∷ []) act.TypeSpecifier
+
+unfoldable pub open_table : Rule → Form
+open_table r.Enum = token k.Enum then rule r.Attrs then when test.EnumeratorsAhead enumerators (word (k.Name ∷ k.TypedefName ∷ []) act.TypeSpecifier then maybe (token k.Colon then rule r.Squals))
+open_table r.Declaration = grammar r.Declaration
+open_table r.Block = grammar r.Block
+open_table r.Param = grammar r.Param
+open_table r.Params = grammar r.Params
+open_table r.Adirect = grammar r.Adirect
+open_table r.Braces = grammar r.Braces
+open_table r.Cast = grammar r.Cast
+open_table r.Unary = grammar r.Unary
+open_table r.Primary = grammar r.Primary
+open_table other = table other
+
+abbrev pub opened : Language
+opened = record parsed { body = open_table }

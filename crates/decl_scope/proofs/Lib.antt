@@ -1,0 +1,5 @@
+pub mod BoundLaws
+pub mod TableLaws
+pub mod ParameterLaws
+pub mod SoundLaws
+pub mod ScopeLaws

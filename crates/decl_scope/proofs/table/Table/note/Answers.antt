@@ -1,0 +1,17 @@
+use Rattle.std.proofs.Common.{◌∙◌, ap, sym}
+use Rattle.c_model.specs.Scopes.{changed}
+use Rattle.c_model.specs.NotedUses.{used_at}
+use Rattle.decl_scope.proofs.TableLaws.{changed_at, changed_none, none_by}
+use Rattle.decl_scope.proofs.table.Table.note.Goals as goal
+
+pub returns-in-Some : goal.returns-in-Some
+returns-in-Some c =
+    changed_at (used_at c.args.place) c.args.id c.self.inside.entries.entries c.in-Some.at c.index_mut-declared.result.now c.note.new.self
+    (sym c.in-Some.ensures.index) c.index_mut-declared.ensures.value c.note.ensures
+    ∙ ap (changed (used_at c.args.place) c.args.id) c.self.view_is
+
+pub returns-in_default : goal.returns-in_default
+returns-in_default c =
+    sym (ap (changed (used_at c.args.place) c.args.id) (sym c.self.view_is)
+    ∙ changed_none (used_at c.args.place) c.args.id c.self.inside.entries.entries (none_by _ c.in_default.ensures.found)
+    ∙ c.self.view_is)

@@ -1,0 +1,8 @@
+pub mod DeclarationCode
+pub mod Values
+pub mod Parameters
+pub mod Later
+pub mod Soundness
+pub mod ScopesCode
+pub mod View
+pub mod Answers

@@ -1,0 +1,25 @@
+//! Names: the scopes of a unit, the ids of what is declared in them, and the rules of declarations.
+#![tactic(auto)]
+
+mod around;
+mod built_ins;
+mod composites;
+mod declared;
+mod entry;
+mod errors;
+mod joining;
+mod level;
+mod names;
+mod rules;
+mod scopes;
+mod table;
+mod typedefs;
+
+pub use c_model::declarations::{Kind, Linkage};
+pub use c_model::marks::DeclId;
+pub use entry::Entry;
+pub use errors::ScopeError;
+pub use scopes::Scopes;
+
+#[cfg(test)]
+mod tests;

@@ -1,0 +1,532 @@
+//! Scripts of declarations with what they answer: a row is a unit in short, a step of it a line.
+ghost use Rattle.std.specs.Prelude.{ℕ, pos, None, Some, IsTrue, IfOk};
+ghost use Rattle.c_model.specs.Types.{form_of_type};
+ghost use Rattle.c_model.specs.Structures.{names_below};
+ghost use Rattle.c_model.specs.Declarations as d;
+
+use super::*;
+use c_model::numbers::{Basic, Const};
+use c_model::types::{Quals, StructId};
+use c_types::{CType, Members, TypeForm, TypeList};
+use cake_base::{Bytes, Fault, NoMemory, Place};
+use std::alloc::Global;
+use std::test::Fail;
+
+const PLAIN: Quals = Quals {
+    has_const: false,
+    has_restrict: false,
+    has_owner: false,
+    has_view: false,
+    has_opt: false,
+};
+
+fn int(alloc: Global, basic: Basic) -> Result<CType, NoMemory>
+    ensures known { IfOk result (λ t. (n : ℕ) → IsTrue (names_below n t)) }
+    ensures integer { IfOk result (λ t. IsTrue (d.fits_kind Kind.Enumerator (form_of_type t) (Some (record { value = pos 0; basic = basic })))) }
+{
+    CType::new(alloc, TypeForm::Integer(basic), PLAIN)
+}
+
+/// An array of int.
+fn array(alloc: Global, length: Option<u64>) -> Result<CType, NoMemory>
+    ensures { IfOk result (λ t. (n : ℕ) → IsTrue (names_below n t)) }
+{
+    let element = int(alloc, Basic::Int)?;
+    CType::new(alloc, TypeForm::Array(element, length), PLAIN)
+}
+
+fn pointer(alloc: Global, target: CType) -> Result<CType, NoMemory>
+    requires { (n : ℕ) → IsTrue (names_below n target) }
+    ensures { IfOk result (λ t. (n : ℕ) → IsTrue (names_below n t)) }
+{
+    CType::new(alloc, TypeForm::Pointer(target), PLAIN)
+}
+
+/// A function without parameters.
+fn function(alloc: Global, answer: CType) -> Result<CType, NoMemory>
+    requires { (n : ℕ) → IsTrue (names_below n answer) }
+    ensures { IfOk result (λ t. (n : ℕ) → IsTrue (names_below n t)) }
+{
+    CType::new(
+        alloc,
+        TypeForm::Function(answer, TypeList::new(alloc), false),
+        PLAIN,
+    )
+}
+
+/// `void (int)`, the type of `exit`.
+fn exit_type(alloc: Global) -> Result<CType, NoMemory>
+    ensures { IfOk result (λ t. (n : ℕ) → IsTrue (names_below n t)) }
+{
+    let mut parameters = TypeList::new(alloc);
+    parameters.push(CType::new(alloc, TypeForm::Integer(Basic::Int), PLAIN)?)?;
+    let nothing = CType::new(alloc, TypeForm::Void, PLAIN)?;
+    CType::new(alloc, TypeForm::Function(nothing, parameters, false), PLAIN)
+}
+
+/// An enumeration, by the place of its word.
+fn enumeration(alloc: Global, order: u32) -> Result<CType, NoMemory>
+    ensures { IfOk result (λ t. (n : ℕ) → IsTrue (names_below n t)) }
+{
+    CType::new(alloc, TypeForm::Enum(Basic::Int, order), PLAIN)
+}
+
+/// The type of a word: `int`, `long`, `int[]`, `int[3]`, `int[4]`, `int()`, `exit()`, `int(*())[]`,
+/// `int(*())[3]`, `int(*())[4]`, and enumerations.
+fn type_of(alloc: Global, word: &str) -> Result<CType, NoMemory>
+    ensures { IfOk result (λ t. (n : ℕ) → IsTrue (names_below n t)) }
+{
+    if word == "long" {
+        return int(alloc, Basic::Long);
+    }
+    if word == "int[]" {
+        return array(alloc, None);
+    }
+    if word == "int[3]" {
+        return array(alloc, Some(3));
+    }
+    if word == "int[4]" {
+        return array(alloc, Some(4));
+    }
+    if word == "int()" {
+        return function(alloc, int(alloc, Basic::Int)?);
+    }
+    if word == "exit()" {
+        return exit_type(alloc);
+    }
+    if word == "int(*())[]" {
+        return function(alloc, pointer(alloc, array(alloc, None)?)?);
+    }
+    if word == "int(*())[3]" {
+        return function(alloc, pointer(alloc, array(alloc, Some(3))?)?);
+    }
+    if word == "int(*())[4]" {
+        return function(alloc, pointer(alloc, array(alloc, Some(4))?)?);
+    }
+    if word == "enum1" {
+        return enumeration(alloc, 1);
+    }
+    if word == "enum2" {
+        return enumeration(alloc, 2);
+    }
+    int(alloc, Basic::Int)
+}
+
+fn is_function(ty: &CType) -> bool
+    ensures { result ≡ d.is_function_form (form_of_type ty.now) }
+{
+    match ty.form() {
+        TypeForm::Function(_, _, _) => true,
+        _ => false,
+    }
+}
+
+/// What has a type: a function or an object.
+fn kind_of(ty: &CType) -> Kind
+    ensures { IsTrue (d.fits_kind result (form_of_type ty.now) None) }
+{
+    if is_function(ty) { Kind::Function } else { Kind::Object }
+}
+
+fn at(line: u32) -> Place {
+    Place {
+        file: 0,
+        line,
+        column: 1,
+        order: line,
+    }
+}
+
+fn text(alloc: Global, name: &str) -> Result<Bytes, NoMemory> {
+    let mut bytes = Bytes::new(alloc);
+    bytes.push(name.as_bytes())?;
+    Ok(bytes)
+}
+
+/// A declaration of a type that names no structure.
+fn declare(scopes: &mut Scopes, entry: Entry) -> Result<DeclId, ScopeError>
+    requires fits { IsTrue (d.fits entry) }
+    requires known { (n : ℕ) → IsTrue (names_below n entry.ty) }
+{
+    if scopes.ids() == u32::MAX {
+        return Err(ScopeError::NoMemory);
+    }
+    scopes.declare(entry)
+}
+
+/// Declares an object or a function, a name of a type, or a tag of an enumeration.
+fn declare_typed(
+    alloc: Global,
+    scopes: &mut Scopes,
+    words: &[&str],
+    line: u32,
+) -> Result<DeclId, ScopeError> {
+    let (storage, ty, name) = (word(words, 0), word(words, 1), word(words, 2));
+    let ty = type_of(alloc, ty)?;
+    let linkage = linkage_of(scopes, storage, name);
+    let kind = if storage == "typedef" {
+        Kind::TypeName
+    } else if storage == "tag" {
+        Kind::Tag
+    } else {
+        kind_of(&ty)
+    };
+    let entry = Entry {
+        name: text(alloc, name)?,
+        kind,
+        linkage,
+        ty,
+        value: None,
+        defines: word(words, 3) == "{}",
+        automatic: storage == "local",
+        place: at(line),
+    };
+    declare(scopes, entry)
+}
+
+fn word<'a>(words: &[&'a str], at: usize) -> &'a str {
+    match words.get(at) {
+        Some(word) => word,
+        None => "",
+    }
+}
+
+/// The linkage by the word: `public` stands for none.
+fn linkage_of(scopes: &Scopes, storage: &str, name: &str) -> Linkage {
+    if storage == "static" {
+        return Linkage::Internal;
+    }
+    if storage == "extern" {
+        return scopes.extern_linkage(name.as_bytes());
+    }
+    if storage == "public" {
+        return Linkage::External;
+    }
+    Linkage::Absent
+}
+
+fn declare_enumerator(
+    alloc: Global,
+    scopes: &mut Scopes,
+    name: &str,
+    line: u32,
+) -> Result<DeclId, ScopeError> {
+    let entry = Entry {
+        name: text(alloc, name)?,
+        kind: Kind::Enumerator,
+        linkage: Linkage::Absent,
+        ty: int(alloc, Basic::Int)?,
+        value: Some(Const {
+            value: 0,
+            basic: Basic::Int,
+        }),
+        defines: true,
+        automatic: false,
+        place: at(line),
+    };
+    declare(scopes, entry)
+}
+
+fn declare_struct(
+    alloc: Global,
+    scopes: &mut Scopes,
+    words: &[&str],
+    line: u32,
+) -> Result<DeclId, ScopeError> {
+    if scopes.ids() == u32::MAX || scopes.structs().count() == 0 {
+        return Err(ScopeError::NoMemory);
+    }
+    let entry = Entry {
+        name: text(alloc, word(words, 1))?,
+        kind: Kind::Tag,
+        linkage: Linkage::Absent,
+        ty: CType::new(alloc, TypeForm::Struct(StructId(0)), PLAIN)?,
+        value: None,
+        defines: word(words, 2) == "{}",
+        automatic: false,
+        place: at(line),
+    };
+    scopes.declare(entry)
+}
+
+/// Writes an id, or the rule and the line of a fault.
+fn write_answer(
+    alloc: Global,
+    answer: Result<DeclId, ScopeError>,
+    out: &mut String,
+) -> Result<(), Fail> {
+    match answer {
+        Ok(id) => out.push_str(format!(in alloc; " {}", id.0)?.as_str())?,
+        Err(ScopeError::Fault(fault)) => {
+            let (rule, line) = (fault.rule.number, fault.place.line);
+            out.push_str(format!(in alloc; " C0{rule}:{line}")?.as_str())?;
+        }
+        Err(ScopeError::NoMemory) => out.push_str(" no memory")?,
+    }
+    Ok(())
+}
+
+fn write_id(alloc: Global, id: Option<DeclId>, out: &mut String) -> Result<(), Fail> {
+    match id {
+        Some(id) => out.push_str(format!(in alloc; " {}", id.0)?.as_str())?,
+        None => out.push_str(" -")?,
+    }
+    Ok(())
+}
+
+/// Writes the length of an array, and the line of its latest declaration.
+fn write_length(alloc: Global, scopes: &Scopes, name: &str, out: &mut String) -> Result<(), Fail> {
+    if let Some(id) = scopes.look(false, name.as_bytes()) {
+        let entry = scopes.entry(id);
+        let line = entry.place.line;
+        match entry.ty.form() {
+            TypeForm::Array(_, Some(length)) => {
+                out.push_str(format!(in alloc; " [{length}]:{line}")?.as_str())?;
+            }
+            _ => out.push_str(format!(in alloc; " []:{line}")?.as_str())?,
+        }
+    }
+    Ok(())
+}
+
+/// Gives an object the type int[3].
+fn settle(alloc: Global, scopes: &mut Scopes, name: &str) -> Result<(), NoMemory> {
+    let ty = array(alloc, Some(3))?;
+    if let Some(id) = scopes.look(false, name.as_bytes()) {
+        if scopes.entry(id).kind == Kind::Object {
+            scopes.settle(id, ty, None);
+        }
+    }
+    Ok(())
+}
+
+/// A step that enters, leaves, declares nothing, or asks.
+fn ask(
+    alloc: Global,
+    scopes: &mut Scopes,
+    words: &[&str],
+    line: u32,
+    out: &mut String,
+) -> Result<(), Fail> {
+    let (step, name) = (word(words, 0), word(words, 1));
+    if step == "{" {
+        scopes.enter()?;
+    } else if step == "lambda" {
+        scopes.enter_literal()?;
+    } else if step == "}" {
+        if !scopes.is_file_scope() {
+            scopes.leave();
+        }
+    } else if step == "look" {
+        write_id(alloc, scopes.look(false, name.as_bytes()), out)?;
+    } else if step == "here" {
+        write_id(alloc, scopes.here(false, name.as_bytes()), out)?;
+    } else if step == "tagged" {
+        write_id(alloc, scopes.look(true, name.as_bytes()), out)?;
+    } else if step == "length" {
+        write_length(alloc, scopes, name, out)?;
+    } else if step == "settle" {
+        settle(alloc, scopes, name)?;
+    } else if step == "use" {
+        note(scopes, name, if word(words, 2) == "later" { 1000 - line } else { line });
+    } else if step == "surrounds" {
+        write_flag(scopes, name, out)?;
+    } else if step == "unresolved" {
+        write_fault(alloc, scopes.unresolved(), out)?;
+    }
+    Ok(())
+}
+
+fn note(scopes: &mut Scopes, name: &str, line: u32) {
+    if let Some(id) = scopes.look(false, name.as_bytes()) {
+        scopes.note_use(id, at(line));
+    }
+}
+
+/// Writes whether a name is one of the surroundings of a literal, and whether it is defined.
+fn write_flag(scopes: &Scopes, name: &str, out: &mut String) -> Result<(), Fail> {
+    if let Some(id) = scopes.look(false, name.as_bytes()) {
+        out.push_str(if scopes.is_surrounding(id) { " out" } else { " in" })?;
+        out.push_str(if scopes.is_defined(id) { "+" } else { "" })?;
+    }
+    Ok(())
+}
+
+fn write_fault(alloc: Global, fault: Option<Fault>, out: &mut String) -> Result<(), Fail> {
+    match fault {
+        Some(fault) => {
+            let (rule, line) = (fault.rule.number, fault.place.line);
+            out.push_str(format!(in alloc; " C0{rule}:{line}")?.as_str())?;
+        }
+        None => out.push_str(" -")?,
+    }
+    Ok(())
+}
+
+fn is_declaration(step: &str) -> bool {
+    step == "static"
+        || step == "extern"
+        || step == "public"
+        || step == "local"
+        || step == "typedef"
+        || step == "tag"
+}
+
+fn take(
+    alloc: Global,
+    scopes: &mut Scopes,
+    words: &[&str],
+    line: u32,
+    out: &mut String,
+) -> Result<(), Fail> {
+    let step = word(words, 0);
+    if is_declaration(step) {
+        let answer = declare_typed(alloc, scopes, words, line);
+        write_answer(alloc, answer, out)
+    } else if step == "enumerator" {
+        let answer = declare_enumerator(alloc, scopes, word(words, 1), line);
+        write_answer(alloc, answer, out)
+    } else if step == "struct" {
+        let answer = declare_struct(alloc, scopes, words, line);
+        write_answer(alloc, answer, out)
+    } else {
+        ask(alloc, scopes, words, line, out)
+    }
+}
+
+/// What the steps of a script answer.
+fn answers(alloc: Global, script: &str) -> Result<String, Fail> {
+    let mut scopes = Scopes::new(alloc)?;
+    scopes.add_struct(None, at(0))?;
+    let mut out = String::new(alloc);
+    let mut line: u32 = 0;
+    let steps: Vec<&str> = script.split('|').collect(alloc)?;
+    for step in steps.as_slice() {
+        line = line.saturating_add(1);
+        let words: Vec<&str> = step.split(' ').collect(alloc)?;
+        take(alloc, &mut scopes, words.as_slice(), line, &mut out)?;
+    }
+    Ok(out)
+}
+
+#[test]
+fn scripts_answer(rt: HostRuntime) -> Result<(), Fail> {
+    let rows = [
+        // each rule once, at its place
+        ("local int cake_x|look cake_x", " C01:1 -"),
+        ("{|local int x|local long x|look x", " 0 C02:3 0"),
+        ("public int x|public long x", " 0 C03:2"),
+        ("static int x|public int x", " 0 C04:2"),
+        ("tag enum1 e {}|tag enum1 e {}", " 0 C06:2"),
+        ("struct s|tag enum1 s", " 0 C06:2"),
+        ("public exit() exit {}", " C07:1"),
+        (
+            "static int() f|use f|use f later|unresolved",
+            " 0 C08:2",
+        ),
+        // the smallest number first
+        ("public int cake_x|static long cake_x", " C01:1 C01:2"),
+        ("static int x|public long x", " 0 C03:2"),
+        ("static int exit", " C07:1"),
+        // built-in functions
+        ("public exit() exit|public exit() exit", " 0 0"),
+        ("static exit() exit", " C07:1"),
+        ("{|local int exit", " 0"),
+        // a tentative definition, and a definition
+        ("public int x|public int x {}|extern int x", " 0 0 0"),
+        // a block's extern after a file's static; one whose visible declaration has no linkage
+        ("static int x|{|extern int x|look x", " 0 0 0"),
+        ("static int x|{|local int x|{|extern int x", " 0 1 C04:5"),
+        // declarations that aren't visible count too
+        ("{|extern int x|}|public long x|look x", " 0 C03:4 -"),
+        // names of types
+        ("typedef int t|typedef int t|typedef long t", " 0 0 C03:3"),
+        ("typedef int[] t|typedef int[3] t", " 0 C03:2"),
+        ("typedef enum1 t|typedef int t", " 0 C03:2"),
+        ("typedef int t|{|typedef long t|look t|}|look t", " 0 1 1 0"),
+        // a tag and an object; an enumerator and an object
+        ("tag enum1 n|local int n|tagged n|look n", " 0 1 0 1"),
+        ("{|enumerator a|local int a|extern int a", " 0 C02:3 C02:4"),
+        // a parameter in the scope of the body
+        ("lambda|local int p|local int p|{|local int p", " 0 C02:3 1"),
+        // arrays
+        (
+            "extern int[] a|length a|extern int[3] a|length a|extern int[] a|length a|extern int[4] a",
+            " 0 []:1 0 [3]:3 0 [3]:5 C03:7",
+        ),
+        ("public int[] a|settle a|extern int[4] a|extern int[3] a", " 0 C03:3 0"),
+        (
+            "extern int(*())[] f|extern int(*())[3] f|extern int(*())[] f|extern int(*())[4] f",
+            " 0 0 0 C03:4",
+        ),
+        ("extern enum1 x|extern int x|extern enum2 x", " 0 0 C03:3"),
+        // a tag keeps its braces and is another one in another scope
+        ("tag enum1 e {}|tag enum1 e|tag enum1 e {}", " 0 0 C06:3"),
+        ("struct s {}|{|tag enum1 s|tagged s|}|tagged s", " 0 1 1 0"),
+        // shadowing and return
+        (
+            "local int x|{|look x|here x|local int x|look x|}|look x|look y",
+            " 0 0 - 1 1 0 -",
+        ),
+        // function literals
+        (
+            "local int x|surrounds x|lambda|local int p|{|surrounds x|surrounds p|lambda|surrounds p|}|}|}|surrounds x",
+            " 0 in 1 out in out in",
+        ),
+        (
+            "lambda|extern int x|}|lambda|look x|extern int x|surrounds x",
+            " 0 - 0 in",
+        ),
+        // uses
+        ("static int() f|use f|static int() f {}|unresolved", " 0 0 -"),
+        ("public int() f|use f|static int x|use x|unresolved", " 0 1 -"),
+        (
+            "static int() f|static int() g|use g later|use f later|unresolved|surrounds f",
+            " 0 1 C08:996 in",
+        ),
+    ];
+    for (script, want) in rows {
+        let got = answers(rt.alloc(), script)?;
+        assert_eq!(rt; got.as_str(), want, "at {script}");
+    }
+    Ok(())
+}
+
+#[test]
+fn a_hundred_thousand_names(rt: HostRuntime) -> Result<(), Fail> {
+    let alloc = rt.alloc();
+    let mut scopes = Scopes::new(alloc)?;
+    let mut out = String::new(alloc);
+    for k in 0..100_000u32 {
+        let name = format!(in alloc; "n{k}")?;
+        take(alloc, &mut scopes, &["public", "int", name.as_str()], k, &mut out)?;
+    }
+    scopes.enter()?;
+    for k in 0..100_000u32 {
+        let name = format!(in alloc; "n{k}")?;
+        take(alloc, &mut scopes, &["extern", "int", name.as_str()], k, &mut out)?;
+        assert_eq!(rt; scopes.look(false, name.as_bytes()), Some(DeclId(k)));
+    }
+    scopes.leave();
+    assert_eq!(rt; scopes.ids(), 100_000);
+    assert_eq!(rt; scopes.look(false, b"n99999"), Some(DeclId(99_999)));
+    assert_eq!(rt; scopes.look(true, b"n99999"), None);
+    Ok(())
+}
+
+#[test]
+fn structures_and_ids(rt: HostRuntime) -> Result<(), Fail> {
+    let alloc = rt.alloc();
+    let mut scopes = Scopes::new(alloc)?;
+    assert_eq!(rt; scopes.fresh(), DeclId(0));
+    assert_eq!(rt; scopes.ids(), 1);
+    scopes.enter()?;
+    let id = scopes.add_struct(Some(text(alloc, "s")?), at(3))?;
+    let mut members = Members::new(alloc);
+    members.push(text(alloc, "a")?, int(alloc, Basic::Int)?, at(4))?;
+    scopes.complete(id, members);
+    assert_eq!(rt; scopes.structs().is_outer(id), false);
+    let structs = scopes.into_structs();
+    assert_eq!(rt; structs.count(), 1);
+    Ok(())
+}

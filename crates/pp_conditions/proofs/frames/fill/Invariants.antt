@@ -1,0 +1,11 @@
+use Rattle.std.proofs.Common.{◌≡◌, length}
+use Rattle.c_model.specs.ConditionReader.{filled}
+use Rattle.c_model.specs.ConditionReading.{computed}
+use Rattle.pp_conditions.specs.Shown.{all}
+use Rattle.pp_conditions.proofs.frames.fill.Given as goal
+
+abbrev pub invariant-loop-frames : goal.invariant-loop-frames
+invariant-loop-frames l = filled computed l.kind (all l.frames) l.filled ≡ filled computed l.kind (all l.fn.frames) l.fn.operand
+
+abbrev pub decreases-loop-frames : goal.decreases-loop-frames
+decreases-loop-frames l = length l.frames

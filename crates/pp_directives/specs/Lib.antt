@@ -1,0 +1,13 @@
+pub mod Errors
+pub mod Numbers
+pub mod Reads
+pub mod Outcomes
+pub mod Parts
+pub mod Views
+pub mod Outputs
+pub mod Replaced
+pub mod Controls
+pub mod Tests
+pub mod Looks
+pub mod Lines
+pub mod Promise

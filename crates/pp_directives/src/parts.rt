@@ -1,0 +1,158 @@
+//! The lines of a file: directives, and the runs of text lines between them.
+ghost use Rattle.std.specs.Prelude.{◌≡◌, ◌+◌, ◌-◌, ◌<◌, ◌≤◌, [], ◌∷◌, ◌++◌, take, drop, length, slice_get, Some, None, IfOk, OnOk};
+ghost use Rattle.c_model.specs.Directives as directives;
+ghost use Rattle.pp_directives.specs.Parts.{line_length, added, added_line};
+
+use crate::kinds::{is_text, kind_after};
+use c_model::directives::LineKind;
+use c_tokens::PpList;
+use cake_base::{NoMemory, Place};
+use std::alloc::Global;
+use std::marker::Model;
+
+/// A directive with the place of its `#` and the tokens after its name, or a run of text lines with
+/// the place of its first token and all its tokens.
+#[derive(Drop)]
+pub struct Part {
+    pub kind: LineKind,
+    pub at: Place,
+    pub tokens: PpList,
+}
+
+impl Model for Part {
+    ghost use Rattle.c_model.specs.Directives as directives;
+
+    ghost Value = { directives.Part };
+
+    ghost view = { λ p. record { kind = p.kind; at = p.at; tokens = p.tokens } };
+}
+
+/// Adds copies of the tokens of these ranks.
+pub fn copy_range(
+    alloc: Global,
+    toks: &PpList,
+    from: usize,
+    to: usize,
+    into: &mut PpList,
+) -> Result<(), NoMemory>
+    requires { to ≤ length toks.now }
+    ensures { OnOk result (into.new ≡ into.old ++ take (to - from) (drop from toks.now)) }
+{
+    for at in from..to {
+        let Some(tok) = toks.get(at) else {
+            return Ok(());
+        };
+        into.push(tok.copy(alloc)?)?;
+    }
+    Ok(())
+}
+
+/// The rank after the last token of the line that begins at this rank.
+fn line_end(toks: &PpList, from: usize) -> usize
+    requires { from < length toks.now }
+    ensures value { result ≡ from + line_length (drop from toks.now) }
+    ensures end { result ≤ length toks.now }
+    ensures further { from < result }
+{
+    let mut at = from + 1;
+    while let Some(tok) = toks.get(at) {
+        if tok.first {
+            return at;
+        }
+        at += 1;
+    }
+    at
+}
+
+/// The directive on the line of these ranks, of which the first is its `#`.
+fn directive(
+    alloc: Global,
+    toks: &PpList,
+    at: Place,
+    from: usize,
+    to: usize,
+) -> Result<Part, NoMemory>
+    requires { to ≤ length toks.now }
+    ensures { IfOk result (λ p. p ≡ directives.directive at (take (to - from) (drop from toks.now))) }
+{
+    let mut tokens = PpList::new(alloc);
+    if from >= to {
+        return Ok(Part {
+            kind: LineKind::Null,
+            at,
+            tokens,
+        });
+    }
+    let kind = match toks.get(from) {
+        Some(name) => kind_after(name),
+        None => LineKind::Null,
+    };
+    copy_range(alloc, toks, from + 1, to, &mut tokens)?;
+    Ok(Part { kind, at, tokens })
+}
+
+/// Adds a line of text of these ranks: to the run before it, or as a new one.
+fn add_text(
+    alloc: Global,
+    parts: &mut Vec<Part>,
+    toks: &PpList,
+    at: Place,
+    from: usize,
+    to: usize,
+) -> Result<(), NoMemory>
+    requires { to ≤ length toks.now }
+    ensures { OnOk result (parts.new.items ≡ added parts.old.items (record { kind = LineKind.Text; at = at; tokens = take (to - from) (drop from toks.now) })) }
+{
+    let mut run = Part {
+        kind: LineKind::Text,
+        at,
+        tokens: PpList::new(alloc),
+    };
+    if let Some(last) = parts.pop() {
+        if is_text(last.kind) {
+            run = last;
+        } else {
+            parts.push(last)?;
+        }
+    }
+    copy_range(alloc, toks, from, to, &mut run.tokens)?;
+    parts.push(run)?;
+    Ok(())
+}
+
+/// Adds the line of these ranks.
+fn add_line(
+    alloc: Global,
+    parts: &mut Vec<Part>,
+    toks: &PpList,
+    from: usize,
+    to: usize,
+) -> Result<(), NoMemory>
+    requires within { to ≤ length toks.now }
+    requires some { from < to }
+    ensures { OnOk result (parts.new.items ≡ added_line parts.old.items (take (to - from) (drop from toks.now))) }
+{
+    let Some(first) = toks.get(from) else {
+        return Ok(());
+    };
+    if first.spelling() == b"#".as_slice() {
+        parts.push(directive(alloc, toks, first.place, from + 1, to)?)?;
+        Ok(())
+    } else {
+        add_text(alloc, parts, toks, first.place, from, to)
+    }
+}
+
+/// The directives of a list of tokens and the runs of text between them (ISO/IEC 9899:2024, 6.10.1).
+pub fn split(alloc: Global, toks: &PpList) -> Result<Vec<Part>, NoMemory>
+    ensures { IfOk result (λ parts. parts.items ≡ directives.parts toks.now) }
+{
+    let mut parts = Vec::new(alloc);
+    let mut from = 0;
+    while from < toks.count() {
+        let to = line_end(toks, from);
+        add_line(alloc, &mut parts, toks, from, to)?;
+        from = to;
+    }
+    Ok(parts)
+}

@@ -1,0 +1,95 @@
+//! Preprocessing of a unit.
+ghost use Rattle.std.specs.Prelude.{◌≡◌, ◌<◌, ◌≤◌, [], length, IfOk, IfErr};
+ghost use Rattle.cake_base.specs.Outside.{ReadKeeps};
+ghost use Rattle.c_model.specs.Place as places;
+ghost use Rattle.c_model.specs.PreprocessedUnit as whole;
+ghost use Rattle.c_model.specs.Processes as process;
+ghost use Rattle.pp_directives.specs.Outcomes.{Runs};
+ghost use Rattle.pp_directives.specs.Promise.{IsDue, FailedRead, MissedMain, Kept, with_log, MainUnread};
+ghost use Rattle.pp_directives.specs.Reads.{Answers};
+
+use crate::errors::PrepError;
+use crate::lists::Marks;
+use crate::log::PrepLog;
+use crate::options::Options;
+use c_tokens::PpList;
+use cake_base::{Files, Place};
+use std::alloc::Global;
+use std::marker::Model;
+
+/// The most includes within one another.
+const MOST_LEVELS: u32 = 200;
+
+/// A unit that is preprocessed. Contracts see the record of its parts.
+#[derive(Debug, Drop)]
+pub struct Prep {
+    tokens: PpList,
+    marks: Marks,
+    end: Place,
+}
+
+impl Model for Prep {
+    ghost use Rattle.pp_directives.specs.Promise as promise;
+
+    ghost Value = { promise.Prep };
+
+    ghost view = { λ p. record { tokens = p.tokens; marks = p.marks; end = p.end } };
+}
+
+impl Prep {
+    /// The preprocessed tokens; the order of each is its rank.
+    pub fn tokens(&self) -> &PpList
+        ensures { result.now ≡ self.now.tokens }
+    {
+        &self.tokens
+    }
+
+    /// The marks of diagnostic pragmas.
+    pub fn marks(&self) -> &Marks
+        ensures { result.now ≡ self.now.marks }
+    {
+        &self.marks
+    }
+
+    /// The place after the last byte of the main file.
+    pub fn end(&self) -> Place
+        ensures { result ≡ self.now.end }
+    {
+        self.end
+    }
+}
+
+/// Preprocesses the unit of the main file of that name, with its headers (ISO/IEC 9899:2024, 5.1.1.2
+/// phases 1 to 4 and 6.10). The log is empty at the call, and the definitions of the options have
+/// together fewer than 4,294,967,295 bytes, each with `#define `, a blank and a line end.
+///
+/// The error is the first in the order of translation: a rule P01 to P20 or L01, a limit M01 to M05,
+/// or a file that isn't read, by its number in the log. The log then has the names of all files that
+/// were met, that one among them, and the notes.
+pub fn preprocess<F: Files>(
+    alloc: Global,
+    files: &mut F,
+    options: &Options,
+    name: &str,
+    log: &mut PrepLog,
+) -> Result<Prep, PrepError>
+    requires empty { log.old ≡ record { names = []; notes = [] } }
+    requires lines { length (whole.command_lines options.now.defines) < 4294967295 }
+
+    // Where the files tell what they hold, the answer, the names and the notes are those that are due.
+    ensures due { IsDue (F.shows files.old).held options.now name.now result log.new }
+
+    // A failed read comes only where the count of faults rose, with what stands where that read fails.
+    ensures failed { FailedRead (F.shows files.old) (F.shows files.new) options.now name.now result log.new }
+
+    // A missing main file comes only where the count of misses rose, or where it isn't held.
+    ensures missed { MissedMain (F.shows files.old) (F.shows files.new) result }
+
+    // No read changes what the files hold, and no count falls.
+    ensures kept { Kept (F.shows files.old) (F.shows files.new) }
+
+    // The same of files that tell nothing: what is due after the answers that they gave.
+    ensures answered { Runs (F.shows files.old) (F.shows files.new) (whole.unit options.now name.now) result (with_log log.new) log.new }
+{
+    Err(PrepError::NoMemory)
+}

@@ -1,0 +1,185 @@
+//! The state that the lines of a unit change.
+ghost use Rattle.std.specs.Prelude.{◌≡◌, ◌++◌, ◌∷◌, ◌<◌, ◌≤◌, [], ℕ, map, length, slice_get, Some, None, is_none, IfOk, OnOk};
+ghost use Rattle.std.specs.Option.{option_map};
+ghost use Rattle.c_model.specs.Macros as macros;
+ghost use Rattle.c_model.specs.PreprocessedUnit as whole;
+ghost use Rattle.c_model.specs.Sources as spec;
+ghost use Rattle.pp_directives.specs.Replaced.{Replaced};
+
+use crate::errors::PrepError;
+use crate::log::PrepLog;
+use crate::marks::OpenMarks;
+use crate::numbers::FileNumbers;
+use crate::lists::Marks;
+use crate::options::Options;
+use crate::output::{Output, standing};
+use crate::sources::Sources;
+use c_tokens::PpList;
+use cake_base::{Bytes, FileName, NoMemory, Place};
+use pp_macros::{MacroTable, Work, expand};
+use std::alloc::Global;
+use std::marker::Model;
+
+/// What preprocessing knows at a line. Contracts see the record of its parts.
+#[derive(Drop)]
+pub struct Unit {
+    pub table: MacroTable,
+    pub log: PrepLog,
+    /// The files that were read, the main file among them.
+    pub held: FileNumbers,
+    /// The built-in headers that were taken.
+    pub built_in: FileNumbers,
+    pub sources: Sources,
+    pub marks: OpenMarks,
+    pub tokens: Output,
+    pub work: Work,
+    /// The bytes of all files that were read.
+    pub bytes: u64,
+}
+
+impl Model for Unit {
+    ghost use Rattle.c_model.specs.Sources as spec;
+
+    ghost Value = { spec.State };
+
+    ghost view = { λ u. record { table = u.table; log = u.log; held = u.held; built_in = u.built_in; sources = u.sources; marks = u.marks; tokens = u.tokens; made = u.work.made; bytes = u.bytes } };
+}
+
+/// The tokens, each with this number of tokens before it.
+fn standing_all(alloc: Global, count: u32, toks: &PpList) -> Result<PpList, NoMemory>
+    ensures { IfOk result (λ list. list ≡ spec.standing_all count toks.now) }
+{
+    let mut list = PpList::new(alloc);
+    for at in 0..toks.count() {
+        let Some(tok) = toks.get(at) else {
+            return Ok(list);
+        };
+        let mut copy = tok.copy(alloc)?;
+        copy.place = standing(count, copy.place);
+        list.push(copy)?;
+    }
+    Ok(list)
+}
+
+impl Unit {
+    /// The place where a line stands among the tokens so far.
+    pub fn here(&self, place: Place) -> Place
+        ensures { result ≡ spec.here self.now place }
+    {
+        standing(self.tokens.count(), place)
+    }
+
+    /// The tokens of a line where it stands.
+    pub fn tokens_here(&self, alloc: Global, toks: &PpList) -> Result<PpList, NoMemory>
+        ensures { IfOk result (λ list. list ≡ spec.tokens_here self.now toks.now) }
+    {
+        standing_all(alloc, self.tokens.count(), toks)
+    }
+
+    /// What the tokens of a line are replaced by.
+    pub fn replaced(&mut self, alloc: Global, toks: &PpList) -> Result<PpList, PrepError>
+        ensures { Replaced self.old toks.now result self.new }
+    {
+        let line = self.tokens_here(alloc, toks)?;
+        let list = expand(alloc, &self.table, &line, &mut self.work)?;
+        Ok(list)
+    }
+
+    /// Gives the next number to a file of that name.
+    pub fn name_next(&mut self, alloc: Global, name: &str) -> Result<u32, NoMemory>
+        ensures { IfOk result (λ file. (file ≡ spec.next_file self.old) × (self.new ≡ spec.named name.now self.old)) }
+    {
+        let Ok(file) = u32::try_from(self.log.count()) else {
+            return Err(NoMemory);
+        };
+        self.table.name_file(file, name)?;
+        self.log.add_name(FileName::new(alloc, name)?)?;
+        Ok(file)
+    }
+}
+
+/// The lines that define the macros of the command.
+fn command_lines(alloc: Global, options: &Options) -> Result<Bytes, NoMemory>
+    ensures { IfOk result (λ text. text ≡ whole.command_lines options.now.defines) }
+{
+    let mut text = Bytes::new(alloc);
+    for at in 0..options.define_count() {
+        let (Some(name), Some(value)) = (options.name(at), options.value(at)) else {
+            return Ok(text);
+        };
+        text.push(b"#define ")?;
+        text.push(name)?;
+        text.push(b" ")?;
+        text.push(value)?;
+        text.push(b"\n")?;
+    }
+    Ok(text)
+}
+
+impl Unit {
+    /// The state after the main file of that name was read, which has this text.
+    pub fn new(
+        alloc: Global,
+        options: &Options,
+        name: &str,
+        text: &[u8],
+    ) -> Result<Unit, NoMemory>
+        requires short { length text.now ≤ 16777216 }
+        requires lines { length (whole.command_lines options.now.defines) < 4294967295 }
+        ensures { IfOk result (λ unit. unit ≡ whole.beginning options.now name.now text.now) }
+    {
+        let mut table = MacroTable::new(alloc)?;
+        table.name_file(0, name)?;
+        table.name_file(1, COMMAND_LINE)?;
+        let mut held = FileNumbers::new(alloc);
+        held.add(alloc, name.as_bytes(), 0)?;
+        let defines = command_lines(alloc, options)?;
+        let mut sources = Sources::new(alloc);
+        sources.add(alloc, 0, text)?;
+        sources.add(alloc, 1, defines.as_slice())?;
+        Ok(Unit {
+            table,
+            log: first_log(alloc, name)?,
+            held,
+            built_in: FileNumbers::new(alloc),
+            sources,
+            marks: OpenMarks::new(alloc),
+            tokens: Output::new(alloc),
+            work: Work { made: 0 },
+            bytes: text.len() as u64,
+        })
+    }
+
+    /// The tokens, the marks and the log.
+    pub fn into_parts(self) -> (PpList, Marks, PrepLog)
+        ensures tokens { result.0 ≡ self.tokens }
+        ensures marks { result.1 ≡ self.marks }
+        ensures log { result.2 ≡ self.log }
+    {
+        let Unit {
+            table: _,
+            log,
+            held: _,
+            built_in: _,
+            sources: _,
+            marks,
+            tokens,
+            work: _,
+            bytes: _,
+        } = self;
+        (tokens.into_list(), marks.into_list(), log)
+    }
+}
+
+/// The name of the file of the command's definitions.
+const COMMAND_LINE: &str = "<command line>";
+
+/// The log with the names of the files 0 and 1.
+pub fn first_log(alloc: Global, name: &str) -> Result<PrepLog, NoMemory>
+    ensures { IfOk result (λ log. log ≡ whole.first_log name.now) }
+{
+    let mut log = PrepLog::new(alloc);
+    log.add_name(FileName::new(alloc, name)?)?;
+    log.add_name(FileName::new(alloc, COMMAND_LINE)?)?;
+    Ok(log)
+}
