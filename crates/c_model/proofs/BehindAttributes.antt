@@ -90,7 +90,7 @@ and_false false = refl
 alone_not : (ts later : List Terminal) → past_attributes 0 ts ≡ later → sees 65 later ≡ false → sees_attributes_alone ts ≡ false
 alone_not ts later p h = let q : sees 65 (past_attributes 0 ts) ≡ false = ap (λ z. sees 65 z) p ∙ h in rw q (and_false (sees_attribute ts))
 
-specifiers_plain : IsPlain (firsts r.Specs)
+pub specifiers_plain : IsPlain (firsts r.Specs)
 unfolding firsts mem
 specifiers_plain = record { bracket = refl; first = refl; second = refl; closed = refl; stray = refl }
 
@@ -106,12 +106,12 @@ specified {mid = mid} {ts = ts} {later = later} c d h =
     let e = alone_not ts later b.past (missing (firsts r.Specs) 65 refl specifiers_end specifiers_plain.closed specifiers_plain.stray mid later h) in
     rw (a, e) refl
 
-comes : (n : Rule) (s : Scopes) (ts : List Terminal) → mem (ahead tables parsed s ts) (firsts n) ≡ true → mem 0 (firsts n) ≡ false → may_come n s ts ≡ true
+pub comes : (n : Rule) (s : Scopes) (ts : List Terminal) → mem (ahead tables parsed s ts) (firsts n) ≡ true → mem 0 (firsts n) ≡ false → may_come n s ts ≡ true
 unfolding ahead
 comes n s [] h z = absurd (clash _ h z)
 comes n s (t ∷ ts) h z = h
 
-no_end : mem 0 (firsts r.Specs) ≡ false
+pub no_end : mem 0 (firsts r.Specs) ≡ false
 unfolding firsts mem
 no_end = refl
 
@@ -122,7 +122,7 @@ declared {s = s} {mid = mid} {ts = ts} {later = later} c d h =
     or_right (sees_assertion ts || sees_attributes_alone ts) (specifies s ts) k
 
 -- something else does
-comes_not : (F : List ℕ) → apart tables F (firsts r.Specs) ≡ true → (s : Scopes) (ts : List Terminal) → mem (ahead tables parsed s ts) F ≡ true → may_come r.Specs s ts ≡ false
+pub comes_not : (F : List ℕ) → apart tables F (firsts r.Specs) ≡ true → (s : Scopes) (ts : List Terminal) → mem (ahead tables parsed s ts) F ≡ true → may_come r.Specs s ts ≡ false
 unfolding ahead
 comes_not F a s [] h = refl
 comes_not F a s (t ∷ ts) h = decide (mem (kind s t) (firsts r.Specs)) (λ e. apart_mem tables (kind s t) F (firsts r.Specs) a h e)

@@ -102,7 +102,7 @@ ungiven j h g = rw (h, third (j == 112) (j == 113) (j == 116) g) refl
     third false true c h = absurd (cc)
     third false false c h = refl
 
-no_own : (bs : List ℕ) (j : ℕ) → (j == 111) ≡ false → mem (bracket_kind bs j) (111 ∷ 113 ∷ []) ≡ false
+pub no_own : (bs : List ℕ) (j : ℕ) → (j == 111) ≡ false → mem (bracket_kind bs j) (111 ∷ 113 ∷ []) ≡ false
 no_own [] j h = alone_kind (is_given j) j (ungiven j h)
 no_own (last ∷ bs) j h = two_kinds (is_closing j) (closes last j) (is_given j) j (ungiven j h)
 

@@ -32,6 +32,7 @@ use Rattle.c_model.proofs.RegainAbstract.{abstract_declarator}
 use Rattle.c_model.proofs.RegainCommas.{braces, enumeration}
 use Rattle.c_model.proofs.RegainDeclaration.{declaration}
 use Rattle.c_model.proofs.RegainBlock.{block_items}
+use Rattle.c_model.proofs.RegainFunction.{external}
 use Rattle.c_model.proofs.RegainParameter.{parameter}
 use Rattle.c_model.proofs.RegainCast.{cast_expression, unary_expression}
 
@@ -47,6 +48,7 @@ each r.Primary = primary
 each r.Enum = enumeration
 each r.Declaration = declaration
 each r.Block = block_items
+each r.External = external
 each r.Param = parameter
 each r.Cast = cast_expression
 each r.Unary = unary_expression
@@ -132,6 +134,7 @@ loose r.Primary = loosened r.Primary refl
 loose r.Enum = record { derived = enum_back; begun = enum_front }
 loose r.Declaration = loosened r.Declaration refl
 loose r.Block = loosened r.Block refl
+loose r.External = loosened r.External refl
 loose r.Param = loosened r.Param refl
 loose r.Cast = loosened r.Cast refl
 loose r.Unary = loosened r.Unary refl

@@ -105,7 +105,7 @@ plain_place F typed n a b c m =
 abbrev storages : List ℕ
 storages = k.Extern ∷ k.Static ∷ k.Auto ∷ k.Register ∷ k.Constexpr ∷ []
 
-abbrev qualifiers : List ℕ
+abbrev pub qualifiers : List ℕ
 qualifiers = k.Const ∷ k.Restrict ∷ k.Owner ∷ k.View ∷ k.Opt ∷ []
 
 word_over : (F : List ℕ) → IsWords F → apart tables F heads ≡ true → apart tables F typeofs ≡ true → apart tables F type_words ≡ true → (fixed : Bool) (base s new : Scopes) (t : Terminal) (ts : List Terminal) → new.reading.typed ≡ s.reading.typed → mem (kind s t) F ≡ true → IsPast base s new fixed (t ∷ ts) ts
@@ -123,7 +123,7 @@ storage_words : IsWords storages
 unfolding mem within firsts
 storage_words = record { plain = (refl, refl, refl, refl, refl); brace = refl; colon = refl; specifiers = refl }
 
-qualifier_words : IsWords qualifiers
+pub qualifier_words : IsWords qualifiers
 unfolding mem within firsts
 qualifier_words = record { plain = (refl, refl, refl, refl, refl); brace = refl; colon = refl; specifiers = refl }
 
@@ -288,10 +288,10 @@ tag_name s t e = by (t.kind == 111) (is_type s.entries t.name) s.reading.typed (
     by true x y j n h = refl
     by false x y j n h = absurd (clash _ h (n refl))
 
-as_closing : (j : ℕ) → within tables (j ∷ []) closing ≡ true → (s : Scopes) (t : Terminal) → mem (kind s t) (j ∷ []) ≡ true → mem (kind s t) closing ≡ true
+pub as_closing : (j : ℕ) → within tables (j ∷ []) closing ≡ true → (s : Scopes) (t : Terminal) → mem (kind s t) (j ∷ []) ≡ true → mem (kind s t) closing ≡ true
 as_closing j w s t e = within_mem tables (kind s t) (j ∷ []) closing w e
 
-close_bracket : within tables (69 ∷ []) closing ≡ true
+pub close_bracket : within tables (69 ∷ []) closing ≡ true
 unfolding within mem
 close_bracket = refl
 
@@ -299,7 +299,7 @@ close_brace : within tables (71 ∷ []) closing ≡ true
 unfolding within mem
 close_brace = refl
 
-close_parenthesis : within tables (67 ∷ []) closing ≡ true
+pub close_parenthesis : within tables (67 ∷ []) closing ≡ true
 unfolding within mem
 close_parenthesis = refl
 
@@ -320,11 +320,11 @@ unfolding table
 attribute_grouped {s = s} b (Derives.a_rule (Derives.both (Derives.a_word {t = t} e1) (Derives.both {mid = m1} e2 (Derives.both {mid = m2} d (Derives.both (Derives.a_word e3) (Derives.a_word {t = w} e4) p1) p2) p3) p4)) =
     (is_bracket s t e1, grouped in_attribute s m2 w attribute_even attribute_level b (Derives.both e2 (Derives.both d (Derives.a_word e3) refl) refl) (as_closing 69 close_bracket m2 w e4))
 
-empty_attribute : {s new : Scopes} {rest : List Terminal} {xs : List Tree} → Derives parsed (rule r.Attr) s [] xs new rest → ⊥
+pub empty_attribute : {s new : Scopes} {rest : List Terminal} {xs : List Tree} → Derives parsed (rule r.Attr) s [] xs new rest → ⊥
 unfolding hollow firsts mem ahead
 empty_attribute d = clash _ (begins_with refl d) refl
 
-over_attributes_one : {s new : Scopes} {ts rest : List Terminal} {xs : List Tree} → s.brackets ≡ [] → Derives parsed (rule r.Attr) s ts xs new rest → new.brackets ≡ []
+pub over_attributes_one : {s new : Scopes} {ts rest : List Terminal} {xs : List Tree} → s.brackets ≡ [] → Derives parsed (rule r.Attr) s ts xs new rest → new.brackets ≡ []
 over_attributes_one b d = ap (λ z. z.brackets) (attribute_over b d).state ∙ b
 
 heads_over : (fixed : Bool) (base : Scopes) {s mid : Scopes} {ts later : List Terminal} {xs : List Tree} → s.brackets ≡ [] → Derives parsed (many (rule r.Attr)) s ts xs mid later → past_specifiers fixed BehindHead base ts ≡ past_specifiers fixed BehindHead base later
@@ -407,7 +407,7 @@ parenthesis_kind s t e = is_it 66 (refl, refl, refl, refl, refl) s t e
 group_over : (fixed : Bool) (base : Scopes) (us vs : List Terminal) → past_brackets 1 us ≡ vs → past_specifiers fixed (Group 1) base us ≡ past_specifiers fixed (Between true) base vs
 group_over fixed base us vs q = over_group us 0 fixed base ∙ ap (λ z. past_specifiers fixed (Between true) base z) q
 
-cleared : {s mid : Scopes} {ts later : List Terminal} {xs : List Tree} → s.brackets ≡ [] → Derives parsed (many (rule r.Attr)) s ts xs mid later → mid.brackets ≡ []
+pub cleared : {s mid : Scopes} {ts later : List Terminal} {xs : List Tree} → s.brackets ≡ [] → Derives parsed (many (rule r.Attr)) s ts xs mid later → mid.brackets ≡ []
 cleared b a = ap (λ z. z.brackets) (over_many b a).state ∙ b
 
 attributes_same : {base s m : Scopes} (t : Terminal) {us later : List Terminal} {xs : List Tree} → IsSame base s → Derives parsed (many (rule r.Attr)) (after act.Pass s t) us xs m later → m.entries ≡ base.entries
@@ -559,7 +559,7 @@ unfolding declares is_balanced
 specifiers_same base b d = same_after r.Specs base refl refl b d
 
 -- before a declarator or `;` the scan ends
-abbrev behind : List ℕ
+abbrev pub behind : List ℕ
 behind = 65 ∷ 66 ∷ 74 ∷ 111 ∷ 113 ∷ []
 
 step_end : (fixed typed : Bool) (base : Scopes) (t : Terminal) (ts : List Terminal) → (t.kind == 111) ≡ false → (t.kind == 70) ≡ false → (t.kind == 72) ≡ false → mem t.kind (firsts r.Specs) ≡ false → past_specifiers fixed (Between typed) base (t ∷ ts) ≡ t ∷ ts

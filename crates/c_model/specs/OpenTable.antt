@@ -18,6 +18,7 @@ enumerators = maybe (word (k.Name ∷ k.TypedefName ∷ []) act.TypeSpecifier) t
 
 unfoldable pub open_table : Rule → Form
 open_table r.Enum = token k.Enum then rule r.Attrs then when test.EnumeratorsAhead enumerators (word (k.Name ∷ k.TypedefName ∷ []) act.TypeSpecifier then maybe (token k.Colon then rule r.Squals))
+open_table r.External = grammar r.External
 open_table r.Declaration = grammar r.Declaration
 open_table r.Block = grammar r.Block
 open_table r.Param = grammar r.Param
