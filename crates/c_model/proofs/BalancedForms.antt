@@ -1,8 +1,8 @@
 -- The brackets of what a form derives match: a scan for the bracket that closes one before it passes over it.
-use Rattle.std.proofs.Common.{◌≡◌, ℕ, zero, suc, ◌+◌, ◌-◌, Bool, true, false, not, ◌&&◌, ◌||◌, List, [], ◌∷◌, length, refl, sym, ap, subst, ◌∙◌, arith}
+use Rattle.std.proofs.Common.{◌≡◌, ℕ, zero, suc, ◌+◌, ◌-◌, Bool, true, false, ◌&&◌, ◌||◌, List, [], ◌∷◌, length, refl, sym, ap, subst, ◌∙◌, arith}
 use Rattle.std.proofs.lemmas.Bool.{eqb-true}
 use Rattle.std.specs.Prelude.{◌==◌, if◌then◌else◌}
-use mathlib.Core.Logic.{◌⊎◌, inl, inr}
+use mathlib.Core.Logic.{inl, inr}
 use Rattle.c_model.specs.declared.grammar.Rule.{Rule}
 use Rattle.c_model.specs.declared.grammar.Rule.TheVariants as r
 use Rattle.c_model.specs.declared.grammar.Act.{Act}
@@ -16,7 +16,7 @@ use Rattle.c_model.specs.DecidedTable.{within, apart}
 use Rattle.c_model.specs.ParserTable.{table}
 use Rattle.c_model.specs.ParserSets.{tables}
 use Rattle.c_model.specs.ParserTests.{parsed, past_brackets}
-use Rattle.c_model.proofs.KindSets.{and_left, and_right, or_cases, not_true, within_mem, apart_mem, clash}
+use Rattle.c_model.proofs.KindSets.{and_left, and_right, or_cases, within_mem, apart_mem}
 use Rattle.c_model.proofs.TokenKinds.{decide}
 use Rattle.c_model.proofs.ClearBrackets.{holds, closing, at_closing, kept, closed_keeps}
 use Rattle.c_model.proofs.BracketKinds.{opening, brackets, opening_kind, not_both, closing_kind, IsHeld, held_kind, no_opening, no_closing}

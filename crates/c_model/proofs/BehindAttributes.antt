@@ -1,31 +1,24 @@
 -- What stands behind attributes decides whether a declaration, a label or a statement comes.
-use Rattle.std.proofs.Common.{◌≡◌, ℕ, Bool, true, false, not, ◌&&◌, ◌||◌, List, [], ◌∷◌, ◌++◌, refl, sym, ap, subst, ◌∙◌}
+use Rattle.std.proofs.Common.{◌≡◌, ℕ, Bool, true, false, ◌&&◌, ◌||◌, List, [], ◌∷◌, refl, sym, ap, subst, ◌∙◌}
 use Rattle.std.proofs.lemmas.Bool.{eqb-true}
-use Rattle.std.specs.Prelude.{◌==◌, if◌then◌else◌}
-use mathlib.Core.Logic.{◌⊎◌, inl, inr}
+use Rattle.std.specs.Prelude.{◌==◌}
 use Rattle.c_model.specs.declared.grammar.Rule.{Rule}
 use Rattle.c_model.specs.declared.grammar.Rule.TheVariants as r
 use Rattle.c_model.specs.declared.grammar.Act.TheVariants as act
 use Rattle.c_model.specs.declared.grammar.Test.TheVariants as test
 use Rattle.c_model.specs.declared.grammar.Terminal.{Terminal}
 use Rattle.c_model.specs.declared.grammar.Tree.{Tree}
-use Rattle.c_model.specs.GrammarForm.{Form, word, rule, when, maybe, many, loop, ◌then◌, ◌or◌, mem}
-use Rattle.c_model.specs.Grammar.{grammar, token}
-use Rattle.c_model.specs.Terminals as k
+use Rattle.c_model.specs.GrammarForm.{rule, mem}
 use Rattle.c_model.specs.NameScopes.{Scopes, kind, after}
-use Rattle.c_model.specs.Derivation.{Derives, Begins}
-use Rattle.c_model.specs.DecidedTable.{nullable, first, within, apart}
+use Rattle.c_model.specs.Derivation.{Derives}
+use Rattle.c_model.specs.DecidedTable.{apart}
 use Rattle.c_model.specs.ParserWalk.{ahead}
-use Rattle.c_model.specs.OpenTable.{open_table}
 use Rattle.c_model.specs.ParserTable.{table}
-use Rattle.c_model.specs.ParserSets.{tables, firsts, follows, hollow}
+use Rattle.c_model.specs.ParserSets.{tables, firsts}
 use Rattle.c_model.specs.ParserTests.{parsed, passes, past_attributes, sees, sees_attribute, sees_assertion, sees_attributes_alone, specifies, may_come, sees_label}
-use Rattle.c_model.proofs.KindSets.{apart_mem, within_mem, clash, or_cases, or_right}
-use Rattle.c_model.proofs.DecidedGrammar.{entry}
-use Rattle.c_model.proofs.ParserDecided.{quiet, checked}
-use Rattle.c_model.proofs.TokenKinds.{is_it, absent, raw, decide}
-use Rattle.c_model.proofs.RegainTable.{IsRegained, IsDerived, Clear, begins_with, starts}
-use Rattle.c_model.proofs.ScannedAttributes.{IsPassed, over_attribute, over_attributes, none_left}
+use Rattle.c_model.proofs.KindSets.{apart_mem, clash, or_right}
+use Rattle.c_model.proofs.TokenKinds.{is_it, absent, decide}
+use Rattle.c_model.proofs.ScannedAttributes.{over_attribute, over_attributes, none_left}
 
 pub missing : (F : List ℕ) (j : ℕ) → (j == 111) ≡ false → mem j F ≡ false → mem 116 F ≡ false → mem 117 F ≡ false → (s : Scopes) (ts : List Terminal) → mem (ahead tables parsed s ts) F ≡ true → sees j ts ≡ false
 unfolding ahead

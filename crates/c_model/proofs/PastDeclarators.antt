@@ -1,37 +1,28 @@
 -- The scan over a declarator passes over one that is derived, and ends behind it.
-use Rattle.std.proofs.Common.{zero, arith, ◌-◌, ◌≡◌, ℕ, suc, ◌+◌, length, Bool, true, false, not, ◌&&◌, ◌||◌, List, [], ◌∷◌, ◌++◌, refl, sym, ap, subst, ◌∙◌}
+use Rattle.std.proofs.Common.{◌≡◌, ℕ, Bool, true, false, not, ◌&&◌, ◌||◌, List, [], ◌∷◌, refl, ap, ◌∙◌}
 use Rattle.std.proofs.lemmas.Bool.{eqb-true}
 use Rattle.std.specs.Prelude.{◌==◌, if◌then◌else◌}
-use mathlib.Core.Logic.{◌⊎◌, inl, inr}
-use Rattle.c_model.specs.declared.grammar.Rule.{Rule}
 use Rattle.c_model.specs.declared.grammar.Rule.TheVariants as r
 use Rattle.c_model.specs.declared.grammar.Act.TheVariants as act
 use Rattle.c_model.specs.declared.grammar.Test.TheVariants as test
 use Rattle.c_model.specs.declared.grammar.Terminal.{Terminal}
-use Rattle.c_model.specs.declared.grammar.Within.{Within}
-use Rattle.c_model.specs.declared.grammar.Within.TheVariants.{Between, BehindHead, BehindTag, BehindTypeof, Attribute, Group}
 use Rattle.c_model.specs.declared.grammar.Tree.{Tree}
-use Rattle.c_model.specs.declared.grammar.Tree.TheVariants as tree
-use Rattle.c_model.specs.GrammarForm.{Form, word, rule, empty, when, maybe, many, loop, ◌then◌, ◌or◌, mem}
-use Rattle.c_model.specs.Grammar.{grammar, token}
+use Rattle.c_model.specs.GrammarForm.{Form, word, rule, maybe, many, loop, ◌then◌, mem}
 use Rattle.c_model.specs.Terminals as k
 use Rattle.c_model.specs.NameScopes.{Scopes, kind, after, is_type, is_opening, is_closing, bracket_kind}
-use Rattle.c_model.specs.Derivation.{Derives, Begins}
-use Rattle.c_model.specs.DecidedTable.{nullable, first, within, apart}
+use Rattle.c_model.specs.Derivation.{Derives}
+use Rattle.c_model.specs.DecidedTable.{within, apart}
 use Rattle.c_model.specs.ParserWalk.{ahead}
-use Rattle.c_model.specs.OpenTable.{open_table}
 use Rattle.c_model.specs.ParserTable.{table}
-use Rattle.c_model.specs.ParserSets.{tables, firsts, follows, hollow}
-use Rattle.c_model.specs.ParserTests.{parsed, passes, sees, past_brackets, past_specifiers, specifier_step, between_step, head_step, behind_word, behind_specifier, behind_braces, bracket_step, is_type_colon, is_type_word, type_words, has_enumerators, sees_enumerators, past_declarator, ends_declarator, is_in_declarator, is_qualifier}
-use Rattle.c_model.proofs.KindSets.{one_mem, apart_mem, within_mem, clash, or_cases, or_right}
+use Rattle.c_model.specs.ParserSets.{tables, firsts}
+use Rattle.c_model.specs.ParserTests.{parsed, past_brackets, past_declarator, is_in_declarator, is_qualifier}
+use Rattle.c_model.proofs.KindSets.{apart_mem, clash}
 use Rattle.c_model.proofs.TokenKinds.{Plain, is_it, absent, raw, decide}
-use Rattle.c_model.proofs.ClearBrackets.{closing, kept, at_closing, clear, holds, is_balanced, parsed_clear}
-use Rattle.c_model.proofs.BalancedForms.{even, level, fits, is_some, pred}
-use Rattle.c_model.proofs.ScannedAttributes.{over_many}
+use Rattle.c_model.proofs.ClearBrackets.{kept, at_closing, clear, holds, is_balanced, parsed_clear}
+use Rattle.c_model.proofs.BalancedForms.{even, level}
 use Rattle.c_model.proofs.ScannedGroups.{over_declarator, grouped}
-use Rattle.c_model.proofs.ScannedSpecifiers.{IsWords, cleared, empty_attribute, attribute_grouped, over_attributes_one, as_closing, close_bracket, close_parenthesis, qualifiers, qualifier_words}
+use Rattle.c_model.proofs.ScannedSpecifiers.{empty_attribute, attribute_grouped, over_attributes_one, as_closing, close_bracket, close_parenthesis, qualifiers, qualifier_words}
 use Rattle.c_model.proofs.RegainDeclarator.{no_own}
-use Rattle.c_model.proofs.RegainTable.{begins_with}
 
 -- one token outside brackets
 at_star : (t : Terminal) (ts : List Terminal) → (t.kind == 74) ≡ true → past_declarator 0 (t ∷ ts) ≡ past_declarator 0 ts

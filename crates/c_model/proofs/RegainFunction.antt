@@ -1,38 +1,35 @@
 -- The test that tells a function from a declaration loses nothing.
-use Rattle.std.proofs.Common.{◌≡◌, ℕ, Bool, true, false, not, ◌&&◌, ◌||◌, List, [], ◌∷◌, ◌++◌, refl, sym, ap, subst, ◌∙◌}
-use Rattle.std.proofs.lemmas.Bool.{eqb-true}
-use Rattle.std.specs.Prelude.{◌==◌, if◌then◌else◌}
-use mathlib.Core.Logic.{◌⊎◌, inl, inr}
-use Rattle.c_model.specs.declared.grammar.Rule.{Rule}
+use Rattle.std.proofs.Common.{◌≡◌, ℕ, Bool, true, false, List, [], ◌∷◌, refl, sym, ap, subst, ◌∙◌}
+use Rattle.std.specs.Prelude.{if◌then◌else◌}
+use mathlib.Core.Logic.{inl, inr}
 use Rattle.c_model.specs.declared.grammar.Rule.TheVariants as r
 use Rattle.c_model.specs.declared.grammar.Act.TheVariants as act
 use Rattle.c_model.specs.declared.grammar.Test.TheVariants as test
 use Rattle.c_model.specs.declared.grammar.Terminal.{Terminal}
 use Rattle.c_model.specs.declared.grammar.Within.TheVariants.{Between}
 use Rattle.c_model.specs.declared.grammar.Tree.{Tree}
-use Rattle.c_model.specs.declared.grammar.Tree.TheVariants as tree
-use Rattle.c_model.specs.GrammarForm.{Form, word, rule, when, maybe, many, loop, ◌then◌, ◌or◌, mem}
+use Rattle.c_model.specs.GrammarForm.{Form, word, rule, when, maybe, many, ◌then◌, ◌or◌, mem}
 use Rattle.c_model.specs.Grammar.{grammar, token}
 use Rattle.c_model.specs.Terminals as k
-use Rattle.c_model.specs.NameScopes.{Scopes, kind, after}
+use Rattle.c_model.specs.NameScopes.{Scopes, kind}
 use Rattle.c_model.specs.Derivation.{Derives, Begins}
 use Rattle.c_model.specs.DecidedTable.{nullable, first, within, apart}
 use Rattle.c_model.specs.ParserWalk.{ahead}
 use Rattle.c_model.specs.OpenTable.{open_table}
 use Rattle.c_model.specs.ParserTable.{table}
-use Rattle.c_model.specs.ParserSets.{tables, firsts, follows, hollow}
-use Rattle.c_model.specs.ParserTests.{parsed, passes, past_attributes, sees, sees_attribute, sees_assertion, specifies, may_come, sees_function, past_specifiers, past_declarator}
-use Rattle.c_model.proofs.KindSets.{apart_mem, within_mem, clash, or_cases, or_right}
+use Rattle.c_model.specs.ParserSets.{tables, firsts, hollow}
+use Rattle.c_model.specs.ParserTests.{parsed, past_attributes, sees, specifies, may_come, sees_function, past_specifiers, past_declarator}
+use Rattle.c_model.proofs.KindSets.{within_mem}
 use Rattle.c_model.proofs.DecidedGrammar.{entry, begun}
 use Rattle.c_model.proofs.ParserDecided.{quiet, checked}
-use Rattle.c_model.proofs.TokenKinds.{is_it, absent, decide}
-use Rattle.c_model.proofs.ClearBrackets.{is_balanced, clear, parsed_clear}
+use Rattle.c_model.proofs.TokenKinds.{is_it, absent}
+use Rattle.c_model.proofs.ClearBrackets.{is_balanced}
 use Rattle.c_model.proofs.ScannedAttributes.{over_attribute, over_attributes, none_left}
 use Rattle.c_model.proofs.ScannedSpecifiers.{IsSame, specifiers_over, specifiers_same, specifiers_end, behind}
 use Rattle.c_model.proofs.PastDeclarators.{declarator_over, declarator_end, following}
-use Rattle.c_model.proofs.BehindAttributes.{IsBehind, IsPlain, missing, no_attribute, open_behind, specified, specifiers_plain, comes, comes_not, no_end}
-use Rattle.c_model.proofs.RegainDeclaration.{asserted, declares}
-use Rattle.c_model.proofs.RegainTable.{IsRegained, IsDerived, Clear, begins_with, starts}
+use Rattle.c_model.proofs.BehindAttributes.{missing, no_attribute, open_behind, specified, specifiers_plain, comes, comes_not, no_end}
+use Rattle.c_model.proofs.RegainDeclaration.{declares}
+use Rattle.c_model.proofs.RegainTable.{IsRegained, begins_with}
 
 -- the scans stand behind the specifiers
 record IsThere (s m : Scopes) (ts rest : List Terminal) : Type 0 where

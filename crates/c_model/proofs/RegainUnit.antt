@@ -1,5 +1,5 @@
 -- The parser's table and the table that is open in its tests derive and begin the same.
-use Rattle.std.proofs.Common.{◌≡◌, ℕ, Bool, true, false, List, [], ◌∷◌, ◌++◌, refl, subst, ◌∙◌}
+use Rattle.std.proofs.Common.{◌≡◌, ℕ, Bool, true, List, [], ◌∷◌, refl, subst, ◌∙◌}
 use Rattle.c_model.specs.declared.grammar.Rule.{Rule}
 use Rattle.c_model.specs.declared.grammar.Rule.TheVariants as r
 use Rattle.c_model.specs.declared.grammar.Act.TheVariants as act
@@ -19,13 +19,11 @@ use Rattle.c_model.specs.OpenTable.{opened, open_table, enumerators}
 use Rattle.c_model.specs.ParserTable.{table}
 use Rattle.c_model.specs.ParserSets.{tables, follows}
 use Rattle.c_model.specs.ParserTests.{parsed}
-use Rattle.c_model.specs.Untested.{untested}
 use Rattle.c_model.proofs.Forget.{same_table}
 use Rattle.c_model.proofs.Loosen.{loosen, loosen_begun}
 use Rattle.c_model.proofs.OpenFlows.{flows}
-use Rattle.c_model.proofs.ClearBrackets.{clear, is_balanced}
-use Rattle.c_model.proofs.RegainLoops.{then_begun}
-use Rattle.c_model.proofs.RegainTable.{IsRegained, IsDerived, regain, regain_begun}
+use Rattle.c_model.proofs.ClearBrackets.{is_balanced}
+use Rattle.c_model.proofs.RegainTable.{IsRegained, regain, regain_begun}
 use Rattle.c_model.proofs.RegainParameters.{parameters}
 use Rattle.c_model.proofs.RegainPrimary.{primary}
 use Rattle.c_model.proofs.RegainAbstract.{abstract_declarator}

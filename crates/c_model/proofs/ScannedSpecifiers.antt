@@ -1,8 +1,7 @@
 -- The scan over specifiers passes over those that are derived, and ends before a declarator or `;`.
-use Rattle.std.proofs.Common.{zero, arith, ◌-◌, ◌≡◌, ℕ, suc, ◌+◌, length, Bool, true, false, not, ◌&&◌, ◌||◌, List, [], ◌∷◌, ◌++◌, refl, sym, ap, subst, ◌∙◌}
+use Rattle.std.proofs.Common.{◌≡◌, ℕ, Bool, true, false, not, ◌&&◌, ◌||◌, List, [], ◌∷◌, refl, sym, ap, subst, ◌∙◌}
 use Rattle.std.proofs.lemmas.Bool.{eqb-true}
 use Rattle.std.specs.Prelude.{◌==◌, if◌then◌else◌}
-use mathlib.Core.Logic.{◌⊎◌, inl, inr}
 use Rattle.c_model.specs.declared.grammar.Rule.{Rule}
 use Rattle.c_model.specs.declared.grammar.Rule.TheVariants as r
 use Rattle.c_model.specs.declared.grammar.Act.TheVariants as act
@@ -11,29 +10,25 @@ use Rattle.c_model.specs.declared.grammar.Terminal.{Terminal}
 use Rattle.c_model.specs.declared.grammar.Within.{Within}
 use Rattle.c_model.specs.declared.grammar.Within.TheVariants.{Between, BehindHead, BehindTag, BehindTypeof, Attribute, Group}
 use Rattle.c_model.specs.declared.grammar.Tree.{Tree}
-use Rattle.c_model.specs.declared.grammar.Tree.TheVariants as tree
-use Rattle.c_model.specs.GrammarForm.{Form, word, rule, empty, when, maybe, many, loop, ◌then◌, ◌or◌, mem}
-use Rattle.c_model.specs.Grammar.{grammar, token}
+use Rattle.c_model.specs.GrammarForm.{Form, word, rule, when, maybe, many, loop, ◌then◌, ◌or◌, mem}
+use Rattle.c_model.specs.Grammar.{token}
 use Rattle.c_model.specs.Terminals as k
 use Rattle.c_model.specs.NameScopes.{Scopes, kind, after, is_type, is_closing, is_given, closes, bracket_kind}
-use Rattle.c_model.specs.Derivation.{Derives, Begins}
-use Rattle.c_model.specs.DecidedTable.{nullable, first, within, apart}
+use Rattle.c_model.specs.Derivation.{Derives}
+use Rattle.c_model.specs.DecidedTable.{within, apart}
 use Rattle.c_model.specs.ParserWalk.{ahead}
-use Rattle.c_model.specs.OpenTable.{open_table}
 use Rattle.c_model.specs.ParserTable.{table}
-use Rattle.c_model.specs.ParserSets.{tables, firsts, follows, hollow}
-use Rattle.c_model.specs.ParserTests.{parsed, passes, sees, past_brackets, past_specifiers, specifier_step, between_step, head_step, behind_word, behind_specifier, behind_braces, bracket_step, is_type_colon, is_type_word, type_words, has_enumerators, sees_enumerators, past_declarator, ends_declarator, is_in_declarator, is_qualifier}
-use Rattle.c_model.proofs.KindSets.{one_mem, apart_mem, within_mem, clash, or_cases, or_right}
-use Rattle.c_model.proofs.TokenKinds.{Plain, is_it, absent, raw, decide, own, unseen, unnamed}
-use Rattle.c_model.proofs.BracketKinds.{not_both, closing_kind}
-use Rattle.c_model.proofs.ClearBrackets.{closing, at_closing, clear, holds, is_balanced, parsed_clear}
-use Rattle.c_model.proofs.BalancedForms.{even, level, evens, levels, fits, is_some, pred}
-use Rattle.c_model.proofs.ScannedAttributes.{over_attributes, is_bracket, IsPassed}
+use Rattle.c_model.specs.ParserSets.{tables, firsts, hollow}
+use Rattle.c_model.specs.ParserTests.{parsed, sees, past_brackets, past_specifiers, specifier_step, behind_word, is_type_word, type_words, has_enumerators}
+use Rattle.c_model.proofs.KindSets.{one_mem, apart_mem, within_mem, clash, or_right}
+use Rattle.c_model.proofs.TokenKinds.{Plain, is_it, absent, raw, decide, unseen, unnamed}
+use Rattle.c_model.proofs.ClearBrackets.{closing, clear, holds, is_balanced, parsed_clear}
+use Rattle.c_model.proofs.BalancedForms.{even, level, fits, is_some, pred}
+use Rattle.c_model.proofs.ScannedAttributes.{is_bracket}
 use Rattle.c_model.proofs.ScannedAttributes.{over_attribute as attribute_over, over_many}
-use Rattle.c_model.proofs.RegainTable.{begins_with, starts}
+use Rattle.c_model.proofs.RegainTable.{begins_with}
 use Rattle.c_model.proofs.ScannedGroups.{over_group, over_attribute, grouped, or_false}
 use Rattle.c_model.proofs.KeptScopes.{same_entries, declares}
-use Rattle.c_model.proofs.BehindAttributes.{missing}
 
 -- the scopes have the names of those at the start of the scan
 pub record IsSame (base s : Scopes) : Type 0 where

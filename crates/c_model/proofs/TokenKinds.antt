@@ -1,12 +1,11 @@
 -- What the kind of a token in the scopes tells of the token itself, and the other way.
-use Rattle.std.proofs.Common.{◌≡◌, ℕ, Bool, true, false, not, ◌&&◌, ◌||◌, List, [], ◌∷◌, refl, ◌∙◌}
+use Rattle.std.proofs.Common.{◌≡◌, ℕ, Bool, true, false, ◌||◌, List, [], ◌∷◌, refl, ◌∙◌}
 use Rattle.std.proofs.lemmas.Bool.{eqb-true}
 use Rattle.std.specs.Prelude.{◌==◌, if◌then◌else◌}
 use Rattle.c_model.specs.declared.grammar.Terminal.{Terminal}
 use Rattle.c_model.specs.GrammarForm.{mem}
 use Rattle.c_model.specs.NameScopes.{Scopes, kind, bracket_kind, is_closing, is_given, own_kind, closes, is_type}
-use Rattle.c_model.proofs.KindSets.{clash, or_cases, mem_one}
-use mathlib.Core.Logic.{◌⊎◌, inl, inr}
+use Rattle.c_model.proofs.KindSets.{clash, mem_one}
 
 -- a set with no kind of identifiers and of brackets inside attributes
 abbrev pub Plain : List ℕ → Type 0
