@@ -262,7 +262,7 @@ no_parenthesis u h = let q : u.kind ≡ 68 = eqb-true u.kind 68 h in rw q refl
 and_bracket : {s : Scopes} {t u : Terminal} {us : List Terminal} (b : Bool) → sees_abstract (t ∷ u ∷ us) ≡ b → mem (kind s t) (66 ∷ []) ≡ true → (u.kind == 68) ≡ true → Begins parsed choice s (t ∷ u ∷ us) us
 unfolding table
 and_bracket {s = s} {t = t} {u = u} {us = us} true b e h =
-    Begins.in_chosen b (Begins.in_then (Derives.a_word e) (Begins.in_first (Begins.in_rule (Begins.in_right (Begins.in_rule (Begins.in_first (Begins.in_other (closed u us (no_parenthesis u h)) (Begins.in_rule (Begins.in_left (Begins.in_first (Begins.in_word (bracket_shown (after act.OpenDeclarator s t) u h)))))))))))) 
+    Begins.in_chosen b (Begins.in_then (Derives.a_word e) (Begins.in_first (Begins.in_rule (Begins.in_right (Begins.in_rule (Begins.in_first (Begins.in_other (closed u us (no_parenthesis u h)) (Begins.in_rule (Begins.in_left (Begins.in_first (Begins.in_word (bracket_shown (after act.OpenDeclarator s t) u h))))))))))))
 and_bracket {s = s} {t = t} {u = u} false b e h =
     Begins.in_other b (Begins.in_rule (Begins.in_right (Begins.in_then (Derives.a_word e) (Begins.in_first (Begins.in_maybe (Begins.in_rule (Begins.in_first (Begins.in_rule (Begins.in_first (Begins.in_rule (Begins.in_turn (Begins.in_rule (Begins.in_first (Begins.in_word (bracket_shown (after act.OpenParameters s t) u h)))))))))))))))
 

@@ -23,9 +23,6 @@ use Rattle.c_model.proofs.OpenFlows.{flows, flow}
 abbrev pub Clear : Bool → Scopes → Type 0
 Clear b s = b ≡ true → s.brackets ≡ []
 
-
-
-
 -- the form derives these tokens, as some trees
 pub record IsDerived (f : Form) (s : Scopes) (ts : List Terminal) (new : Scopes) (rest : List Terminal) : Type 0 where
   pub trees : List Tree

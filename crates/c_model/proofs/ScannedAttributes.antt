@@ -84,7 +84,7 @@ one_more n m = omega arith
 let_go : (n : ℕ) (s : Scopes) (t : Terminal) (ts : List Terminal) → IsHeld s t → past_attributes (suc (n + length s.brackets)) (t ∷ ts) ≡ past_attributes (suc (n + length (without_last s.brackets))) ts
 let_go n s t ts h =
     let p : past_attributes (suc (n + length (h.last ∷ h.others))) (t ∷ ts) ≡ past_attributes (suc (n + length h.others)) ts =
-        ap (λ m. past_attributes m (t ∷ ts)) (sym (one_more n (length h.others))) ∙ over_closing (suc (n + length h.others)) t ts h.closes in
+    ap (λ m. past_attributes m (t ∷ ts)) (sym (one_more n (length h.others))) ∙ over_closing (suc (n + length h.others)) t ts h.closes in
     subst (λ z. past_attributes (suc (n + length z)) (t ∷ ts) ≡ past_attributes (suc (n + length (without_last z))) ts) (sym h.held) p
 
 over_one : (n : ℕ) {s new : Scopes} {ts rest : List Terminal} {xs : List Tree} → Derives parsed balanced s ts xs new rest → IsOver n s new ts rest

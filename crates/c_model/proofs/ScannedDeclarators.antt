@@ -111,7 +111,7 @@ one_less n m = omega arith
 let_go : (first : Scopes) (n : ℕ) (s : Scopes) (t : Terminal) (ts : List Terminal) → IsHeld s t → names_declarator (Inside (suc (n + length s.brackets))) first (t ∷ ts) ≡ names_declarator (Inside (suc (n + length (without_last s.brackets)))) first ts
 let_go first n s t ts h =
     let p : names_declarator (Inside (suc (n + length (h.last ∷ h.others)))) first (t ∷ ts) ≡ names_declarator (Inside (suc (n + length h.others))) first ts =
-        ap (λ m. names_declarator (Inside m) first (t ∷ ts)) (two_less n (length h.others)) ∙ inside_closing (suc (suc (n + length h.others))) (suc (n + length h.others)) first t ts h.closes (not_one (n + length h.others)) (one_less n (length h.others)) in
+    ap (λ m. names_declarator (Inside m) first (t ∷ ts)) (two_less n (length h.others)) ∙ inside_closing (suc (suc (n + length h.others))) (suc (n + length h.others)) first t ts h.closes (not_one (n + length h.others)) (one_less n (length h.others)) in
     subst (λ z. names_declarator (Inside (suc (n + length z))) first (t ∷ ts) ≡ names_declarator (Inside (suc (n + length (without_last z)))) first ts) (sym h.held) p
 
 inside_one : (first : Scopes) (n : ℕ) {s new : Scopes} {ts rest : List Terminal} {xs : List Tree} → Derives parsed balanced s ts xs new rest → names_declarator (Inside (suc (n + length s.brackets))) first ts ≡ names_declarator (Inside (suc (n + length new.brackets))) first rest

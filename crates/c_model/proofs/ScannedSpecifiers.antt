@@ -419,22 +419,34 @@ no_enumerators s t (u ∷ us) n h = or_left_false (u.kind == 70) _ (rw n at h)
 struct_over : (fixed : Bool) (base : Scopes) {s new : Scopes} {ts rest : List Terminal} {xs : List Tree} → IsSame base s → Derives parsed (rule r.Struct) s ts xs new rest → IsPast base s new fixed ts rest
 unfolding table
 struct_over fixed base {s = s} b (Derives.a_rule (Derives.both (Derives.a_word {t = t} {ts = us} e) (Derives.both {mid = m} (Derives.a_rule a) (Derives.left (Derives.both (Derives.a_word {t = g} {ts = vs} tag) (Derives.chosen c (Derives.a_rule (Derives.both (Derives.a_word {t = o} {ts = ws} eo) (Derives.both m1 (Derives.both {mid = m3} m2 (Derives.a_word {t = v} ec) p3) p4) p5))) p2)) p1) p0)) =
-    record { last = fixed; kept = λ h. h; scanned =
-      to_head fixed s.reading.typed base s t us k.Struct struct_word struct_head e ∙ (heads_over fixed base b.clear a ∙ (at_tag fixed base g vs (tag_name m g tag) ∙ (tag_brace fixed base o ws (brace_kind (after act.TypeSpecifier m g) o eo) ∙
-      group_over fixed base ws _ (grouped members (after act.Pass (after act.TypeSpecifier m g) o) m3 v members_even members_level (cleared b.clear a) (Derives.both m1 m2 refl) (as_closing 71 close_brace m3 v ec))))) }
+    record {
+      last = fixed;
+      kept = λ h. h;
+      scanned =
+          to_head fixed s.reading.typed base s t us k.Struct struct_word struct_head e ∙ (heads_over fixed base b.clear a ∙ (at_tag fixed base g vs (tag_name m g tag) ∙ (tag_brace fixed base o ws (brace_kind (after act.TypeSpecifier m g) o eo) ∙
+          group_over fixed base ws _ (grouped members (after act.Pass (after act.TypeSpecifier m g) o) m3 v members_even members_level (cleared b.clear a) (Derives.both m1 m2 refl) (as_closing 71 close_brace m3 v ec)))));
+    }
 struct_over fixed base {s = s} b (Derives.a_rule (Derives.both (Derives.a_word {t = t} {ts = us} e) (Derives.both {mid = m} (Derives.a_rule a) (Derives.left (Derives.both (Derives.a_word {t = g} {ts = vs} tag) (Derives.other c Derives.nothing) p2)) p1) p0)) =
     record { last = fixed; kept = λ h. h; scanned = to_head fixed s.reading.typed base s t us k.Struct struct_word struct_head e ∙ (heads_over fixed base b.clear a ∙ (at_tag fixed base g vs (tag_name m g tag) ∙ as_tag fixed base vs c)) }
 struct_over fixed base {s = s} b (Derives.a_rule (Derives.both (Derives.a_word {t = t} {ts = us} e) (Derives.both {mid = m} (Derives.a_rule a) (Derives.right (Derives.a_rule (Derives.both (Derives.a_word {t = o} {ts = ws} eo) (Derives.both m1 (Derives.both {mid = m3} m2 (Derives.a_word {t = v} ec) p3) p4) p5))) p1) p0)) =
-    record { last = fixed; kept = λ h. h; scanned =
-      to_head fixed s.reading.typed base s t us k.Struct struct_word struct_head e ∙ (heads_over fixed base b.clear a ∙ (head_brace fixed base o ws (brace_kind m o eo) ∙
-      group_over fixed base ws _ (grouped members (after act.Pass m o) m3 v members_even members_level (cleared b.clear a) (Derives.both m1 m2 refl) (as_closing 71 close_brace m3 v ec)))) }
+    record {
+      last = fixed;
+      kept = λ h. h;
+      scanned =
+          to_head fixed s.reading.typed base s t us k.Struct struct_word struct_head e ∙ (heads_over fixed base b.clear a ∙ (head_brace fixed base o ws (brace_kind m o eo) ∙
+          group_over fixed base ws _ (grouped members (after act.Pass m o) m3 v members_even members_level (cleared b.clear a) (Derives.both m1 m2 refl) (as_closing 71 close_brace m3 v ec))));
+    }
 
 typeof_over : (fixed : Bool) (base : Scopes) {s new : Scopes} {ts rest : List Terminal} {xs : List Tree} → IsSame base s → Derives parsed (rule r.Typeof) s ts xs new rest → IsPast base s new fixed ts rest
 unfolding table
 typeof_over fixed base {s = s} b (Derives.a_rule (Derives.both (Derives.a_word {t = t} {ts = us} e) (Derives.both (Derives.a_word {t = o} {ts = ws} eo) (Derives.both {mid = m3} d (Derives.a_word {t = v} ec) p2) p1) p0)) =
-    record { last = fixed; kept = λ h. h; scanned =
-      to_typeof fixed s.reading.typed base s t us e ∙ (at_typeof fixed base o ws (parenthesis_kind (after act.Pass s t) o eo) ∙
-      group_over fixed base ws _ (grouped operand (after act.Pass (after act.Pass s t) o) m3 v operand_even operand_level b.clear d (as_closing 67 close_parenthesis m3 v ec))) }
+    record {
+      last = fixed;
+      kept = λ h. h;
+      scanned =
+          to_typeof fixed s.reading.typed base s t us e ∙ (at_typeof fixed base o ws (parenthesis_kind (after act.Pass s t) o eo) ∙
+          group_over fixed base ws _ (grouped operand (after act.Pass (after act.Pass s t) o) m3 v operand_even operand_level b.clear d (as_closing 67 close_parenthesis m3 v ec)));
+    }
 
 joined : {base s mid new : Scopes} {fixed : Bool} {ts later rest : List Terminal} (a : IsPast base s mid fixed ts later) → IsPast base mid new a.last later rest → IsPast base s new fixed ts rest
 joined a b = record { last = b.last; kept = λ h. b.kept (a.kept h); scanned = a.scanned ∙ b.scanned }
@@ -490,6 +502,7 @@ braces_over fixed place base {s = s} arrive c (Derives.both (Derives.a_word {t =
 
 mutual
   unfolding table declares is_balanced
+
   pub type_over : (fixed : Bool) (base : Scopes) {s new : Scopes} {ts rest : List Terminal} {xs : List Tree} → IsSame base s → Derives parsed (rule r.Typespec) s ts xs new rest → IsPast base s new fixed ts rest
   type_over fixed base {s = s} b (Derives.a_rule (Derives.left (Derives.a_word {t = t} {ts = us} e))) = over_type fixed base s t us e
   type_over fixed base b (Derives.a_rule (Derives.right (Derives.left d))) = struct_over fixed base b d
