@@ -3,6 +3,7 @@ ghost use Rattle.std.specs.Prelude.{◌≡◌, ℕ, pos, None, Some, IsTrue, IfO
 ghost use Rattle.c_model.specs.Types.{form_of_type};
 ghost use Rattle.c_model.specs.Structures.{names_below};
 ghost use Rattle.c_model.specs.Declarations as d;
+ghost use Rattle.c_model.specs.Scopes as m;
 
 use super::*;
 use c_model::numbers::{Basic, Const};
@@ -158,6 +159,19 @@ fn declare(scopes: &mut Scopes, entry: Entry) -> Result<DeclId, ScopeError>
     scopes.declare(entry)
 }
 
+/// What a declaration of that word and type declares.
+fn kind_for(storage: &str, ty: &CType) -> Kind
+    ensures { IsTrue (d.fits_kind result (form_of_type ty.now) None) }
+{
+    if storage == "typedef" {
+        return Kind::TypeName;
+    }
+    if storage == "tag" {
+        return Kind::Tag;
+    }
+    kind_of(ty)
+}
+
 /// Declares an object or a function, a name of a type, or a tag of an enumeration.
 fn declare_typed(
     alloc: Global,
@@ -165,20 +179,12 @@ fn declare_typed(
     words: &[&str],
     line: u32,
 ) -> Result<DeclId, ScopeError> {
-    let (storage, ty, name) = (word(words, 0), word(words, 1), word(words, 2));
-    let ty = type_of(alloc, ty)?;
-    let linkage = linkage_of(scopes, storage, name);
-    let kind = if storage == "typedef" {
-        Kind::TypeName
-    } else if storage == "tag" {
-        Kind::Tag
-    } else {
-        kind_of(&ty)
-    };
+    let (storage, name) = (word(words, 0), word(words, 2));
+    let ty = type_of(alloc, word(words, 1))?;
     let entry = Entry {
         name: text(alloc, name)?,
-        kind,
-        linkage,
+        kind: kind_for(storage, &ty),
+        linkage: linkage_of(scopes, storage, name),
         ty,
         value: None,
         defines: word(words, 3) == "{}",
@@ -293,65 +299,117 @@ fn write_length(alloc: Global, scopes: &Scopes, name: &str, out: &mut String) ->
     Ok(())
 }
 
+/// Whether a declaration of that kind may have that type, and no value.
+fn may_have(kind: Kind, ty: &CType) -> bool
+    ensures { IsTrue result → IsTrue (d.fits_kind kind (form_of_type ty.now) None) }
+{
+    match kind {
+        Kind::Object => !is_function(ty),
+        Kind::Function => false,
+        Kind::TypeName => true,
+        Kind::Enumerator => false,
+        Kind::Tag => true,
+    }
+}
+
+/// Gives what has an id a type, where it may have it.
+fn settle_id(scopes: &mut Scopes, id: DeclId, ty: CType)
+    requires declared { IsTrue (m.is_declared id.0 scopes.old.declared) }
+    requires known { (n : ℕ) → IsTrue (names_below n ty) }
+{
+    let kind = scopes.entry(id).kind;
+    if may_have(kind, &ty) {
+        scopes.settle(id, ty, None);
+    }
+}
+
 /// Gives an object the type int[3].
 fn settle(alloc: Global, scopes: &mut Scopes, name: &str) -> Result<(), NoMemory> {
     let ty = array(alloc, Some(3))?;
     if let Some(id) = scopes.look(false, name.as_bytes()) {
-        if scopes.entry(id).kind == Kind::Object {
-            scopes.settle(id, ty, None);
-        }
+        settle_id(scopes, id, ty);
     }
     Ok(())
 }
 
-/// A step that enters, leaves, declares nothing, or asks.
-fn ask(
-    alloc: Global,
-    scopes: &mut Scopes,
-    words: &[&str],
-    line: u32,
-    out: &mut String,
-) -> Result<(), Fail> {
+/// A step that asks for an id.
+fn ask_id(scopes: &Scopes, step: &str, name: &str) -> Option<DeclId> {
+    if step == "tagged" {
+        return scopes.look(true, name.as_bytes());
+    }
+    if step == "here" {
+        return scopes.here(false, name.as_bytes());
+    }
+    scopes.look(false, name.as_bytes())
+}
+
+/// A step that asks, and changes nothing.
+fn ask(alloc: Global, scopes: &Scopes, words: &[&str], out: &mut String) -> Result<(), Fail> {
+    let (step, name) = (word(words, 0), word(words, 1));
+    if step == "length" {
+        return write_length(alloc, scopes, name, out);
+    }
+    if step == "surrounds" {
+        return write_flag(scopes, name, out);
+    }
+    if step == "unresolved" {
+        return write_fault(alloc, scopes.unresolved(), out);
+    }
+    write_id(alloc, ask_id(scopes, step, name), out)
+}
+
+fn leave(scopes: &mut Scopes) {
+    if !scopes.is_file_scope() {
+        scopes.leave();
+    }
+}
+
+/// A step that enters, leaves, settles or notes; whether it was one.
+fn go_on(alloc: Global, scopes: &mut Scopes, words: &[&str], line: u32) -> Result<bool, NoMemory> {
     let (step, name) = (word(words, 0), word(words, 1));
     if step == "{" {
         scopes.enter()?;
-    } else if step == "lambda" {
-        scopes.enter_literal()?;
-    } else if step == "}" {
-        if !scopes.is_file_scope() {
-            scopes.leave();
-        }
-    } else if step == "look" {
-        write_id(alloc, scopes.look(false, name.as_bytes()), out)?;
-    } else if step == "here" {
-        write_id(alloc, scopes.here(false, name.as_bytes()), out)?;
-    } else if step == "tagged" {
-        write_id(alloc, scopes.look(true, name.as_bytes()), out)?;
-    } else if step == "length" {
-        write_length(alloc, scopes, name, out)?;
-    } else if step == "settle" {
-        settle(alloc, scopes, name)?;
-    } else if step == "use" {
-        note(
-            scopes,
-            name,
-            if word(words, 2) == "later" {
-                1000 - line
-            } else {
-                line
-            },
-        );
-    } else if step == "surrounds" {
-        write_flag(scopes, name, out)?;
-    } else if step == "unresolved" {
-        write_fault(alloc, scopes.unresolved(), out)?;
+        return Ok(true);
     }
-    Ok(())
+    if step == "lambda" {
+        scopes.enter_literal()?;
+        return Ok(true);
+    }
+    if step == "}" {
+        leave(scopes);
+        return Ok(true);
+    }
+    if step == "settle" {
+        settle(alloc, scopes, name)?;
+        return Ok(true);
+    }
+    if step == "use" {
+        note(scopes, name, line_of(word(words, 2), line));
+        return Ok(true);
+    }
+    Ok(false)
+}
+
+/// The line of a use, which comes before those of earlier steps where the word says so.
+fn line_of(word: &str, line: u32) -> u32 {
+    if word == "later" {
+        return 1000u32.saturating_sub(line);
+    }
+    line
 }
 
 fn note(scopes: &mut Scopes, name: &str, line: u32) {
     if let Some(id) = scopes.look(false, name.as_bytes()) {
         scopes.note_use(id, at(line));
+    }
+}
+
+fn side(outside: bool, defined: bool) -> &'static str {
+    match (outside, defined) {
+        (true, true) => " out+",
+        (true, false) => " out",
+        (false, true) => " in+",
+        (false, false) => " in",
     }
 }
 
@@ -386,6 +444,25 @@ fn is_declaration(step: &str) -> bool {
         || step == "local"
         || step == "typedef"
         || step == "tag"
+        || step == "struct"
+        || step == "enumerator"
+}
+
+/// A step that declares.
+fn declare_step(
+    alloc: Global,
+    scopes: &mut Scopes,
+    words: &[&str],
+    line: u32,
+) -> Result<DeclId, ScopeError> {
+    let step = word(words, 0);
+    if step == "enumerator" {
+        return declare_enumerator(alloc, scopes, word(words, 1), line);
+    }
+    if step == "struct" {
+        return declare_struct(alloc, scopes, words, line);
+    }
+    declare_typed(alloc, scopes, words, line)
 }
 
 fn take(
@@ -395,19 +472,14 @@ fn take(
     line: u32,
     out: &mut String,
 ) -> Result<(), Fail> {
-    let step = word(words, 0);
-    if is_declaration(step) {
-        let answer = declare_typed(alloc, scopes, words, line);
-        write_answer(alloc, answer, out)
-    } else if step == "enumerator" {
-        let answer = declare_enumerator(alloc, scopes, word(words, 1), line);
-        write_answer(alloc, answer, out)
-    } else if step == "struct" {
-        let answer = declare_struct(alloc, scopes, words, line);
-        write_answer(alloc, answer, out)
-    } else {
-        ask(alloc, scopes, words, line, out)
+    if is_declaration(word(words, 0)) {
+        let answer = declare_step(alloc, scopes, words, line);
+        return write_answer(alloc, answer, out);
     }
+    if go_on(alloc, scopes, words, line)? {
+        return Ok(());
+    }
+    ask(alloc, scopes, words, out)
 }
 
 /// What the steps of a script answer.
