@@ -72,38 +72,28 @@ fn enumeration(alloc: Global, order: u32) -> Result<CType, NoMemory>
     CType::new(alloc, TypeForm::Enum(Basic::Int, order), PLAIN)
 }
 
-/// The type of a word: `int`, `long`, `int[]`, `int[3]`, `int[4]`, `int()`, `exit()`, `int(*())[]`,
-/// `int(*())[3]`, `int(*())[4]`, and enumerations.
-fn type_of(alloc: Global, word: &str) -> Result<CType, NoMemory>
+/// The length that a word gives an array: `[]`, `[3]` or `[4]`.
+fn length_of(word: &str) -> Option<u64> {
+    if word == "[3]" {
+        return Some(3);
+    }
+    if word == "[4]" {
+        return Some(4);
+    }
+    None
+}
+
+/// A function that gives a pointer to an array.
+fn array_function(alloc: Global, length: Option<u64>) -> Result<CType, NoMemory>
     ensures { IfOk result (λ t. (n : ℕ) → IsTrue (names_below n t)) }
 {
-    if word == "long" {
-        return int(alloc, Basic::Long);
-    }
-    if word == "int[]" {
-        return array(alloc, None);
-    }
-    if word == "int[3]" {
-        return array(alloc, Some(3));
-    }
-    if word == "int[4]" {
-        return array(alloc, Some(4));
-    }
-    if word == "int()" {
-        return function(alloc, int(alloc, Basic::Int)?);
-    }
-    if word == "exit()" {
-        return exit_type(alloc);
-    }
-    if word == "int(*())[]" {
-        return function(alloc, pointer(alloc, array(alloc, None)?)?);
-    }
-    if word == "int(*())[3]" {
-        return function(alloc, pointer(alloc, array(alloc, Some(3))?)?);
-    }
-    if word == "int(*())[4]" {
-        return function(alloc, pointer(alloc, array(alloc, Some(4))?)?);
-    }
+    function(alloc, pointer(alloc, array(alloc, length)?)?)
+}
+
+/// `int`, and the enumerations 1 and 2.
+fn number_type(alloc: Global, word: &str) -> Result<CType, NoMemory>
+    ensures { IfOk result (λ t. (n : ℕ) → IsTrue (names_below n t)) }
+{
     if word == "enum1" {
         return enumeration(alloc, 1);
     }
@@ -111,6 +101,36 @@ fn type_of(alloc: Global, word: &str) -> Result<CType, NoMemory>
         return enumeration(alloc, 2);
     }
     int(alloc, Basic::Int)
+}
+
+/// `int()`, and `exit()` for the type of that function.
+fn plain_type(alloc: Global, word: &str) -> Result<CType, NoMemory>
+    ensures { IfOk result (λ t. (n : ℕ) → IsTrue (names_below n t)) }
+{
+    if word == "long" {
+        return int(alloc, Basic::Long);
+    }
+    if word == "int()" {
+        return function(alloc, int(alloc, Basic::Int)?);
+    }
+    if word == "exit()" {
+        return exit_type(alloc);
+    }
+    number_type(alloc, word)
+}
+
+/// The type of a word: one of those above, or `[]`, `[3]` or `[4]` for arrays of int, and `&[]`,
+/// `&[3]` or `&[4]` for functions that give a pointer to such an array.
+fn type_of(alloc: Global, word: &str) -> Result<CType, NoMemory>
+    ensures { IfOk result (λ t. (n : ℕ) → IsTrue (names_below n t)) }
+{
+    if let Some(length) = word.strip_prefix('&') {
+        return array_function(alloc, length_of(length));
+    }
+    if word.starts_with('[') {
+        return array(alloc, length_of(word));
+    }
+    plain_type(alloc, word)
 }
 
 fn is_function(ty: &CType) -> bool
@@ -323,7 +343,7 @@ fn settle_id(scopes: &mut Scopes, id: DeclId, ty: CType)
     }
 }
 
-/// Gives an object the type int[3].
+/// Gives an object the type [3].
 fn settle(alloc: Global, scopes: &mut Scopes, name: &str) -> Result<(), NoMemory> {
     let ty = array(alloc, Some(3))?;
     if let Some(id) = scopes.look(false, name.as_bytes()) {
@@ -498,7 +518,7 @@ fn answers(alloc: Global, script: &str) -> Result<String, Fail> {
 }
 
 #[test]
-fn scripts_answer(rt: HostRuntime) -> Result<(), Fail> {
+fn rules_at_their_places(rt: HostRuntime) -> Result<(), Fail> {
     let rows = [
         // each rule once, at its place
         ("local int cake_x|look cake_x", " C01:1 -"),
@@ -513,6 +533,17 @@ fn scripts_answer(rt: HostRuntime) -> Result<(), Fail> {
         ("public int cake_x|static long cake_x", " C01:1 C01:2"),
         ("static int x|public long x", " 0 C03:2"),
         ("static int exit", " C07:1"),
+    ];
+    for (script, want) in rows {
+        let got = answers(rt.alloc(), script)?;
+        assert_eq!(rt; got.as_str(), want, "at {script}");
+    }
+    Ok(())
+}
+
+#[test]
+fn names_and_ids(rt: HostRuntime) -> Result<(), Fail> {
+    let rows = [
         // built-in functions
         ("public exit() exit|public exit() exit", " 0 0"),
         ("static exit() exit", " C07:1"),
@@ -526,7 +557,7 @@ fn scripts_answer(rt: HostRuntime) -> Result<(), Fail> {
         ("{|extern int x|}|public long x|look x", " 0 C03:4 -"),
         // names of types
         ("typedef int t|typedef int t|typedef long t", " 0 0 C03:3"),
-        ("typedef int[] t|typedef int[3] t", " 0 C03:2"),
+        ("typedef [] t|typedef [3] t", " 0 C03:2"),
         ("typedef enum1 t|typedef int t", " 0 C03:2"),
         ("typedef int t|{|typedef long t|look t|}|look t", " 0 1 1 0"),
         // a tag and an object; an enumerator and an object
@@ -534,23 +565,45 @@ fn scripts_answer(rt: HostRuntime) -> Result<(), Fail> {
         ("{|enumerator a|local int a|extern int a", " 0 C02:3 C02:4"),
         // a parameter in the scope of the body
         ("lambda|local int p|local int p|{|local int p", " 0 C02:3 1"),
+    ];
+    for (script, want) in rows {
+        let got = answers(rt.alloc(), script)?;
+        assert_eq!(rt; got.as_str(), want, "at {script}");
+    }
+    Ok(())
+}
+
+#[test]
+fn types_of_redeclarations(rt: HostRuntime) -> Result<(), Fail> {
+    let rows = [
         // arrays
         (
-            "extern int[] a|length a|extern int[3] a|length a|extern int[] a|length a|extern int[4] a",
+            "extern [] a|length a|extern [3] a|length a|extern [] a|length a|extern [4] a",
             " 0 []:1 0 [3]:3 0 [3]:5 C03:7",
         ),
         (
-            "public int[] a|settle a|extern int[4] a|extern int[3] a",
+            "public [] a|settle a|extern [4] a|extern [3] a",
             " 0 C03:3 0",
         ),
         (
-            "extern int(*())[] f|extern int(*())[3] f|extern int(*())[] f|extern int(*())[4] f",
+            "extern &[] f|extern &[3] f|extern &[] f|extern &[4] f",
             " 0 0 0 C03:4",
         ),
         ("extern enum1 x|extern int x|extern enum2 x", " 0 0 C03:3"),
         // a tag keeps its braces and is another one in another scope
         ("tag enum1 e {}|tag enum1 e|tag enum1 e {}", " 0 0 C06:3"),
         ("struct s {}|{|tag enum1 s|tagged s|}|tagged s", " 0 1 1 0"),
+    ];
+    for (script, want) in rows {
+        let got = answers(rt.alloc(), script)?;
+        assert_eq!(rt; got.as_str(), want, "at {script}");
+    }
+    Ok(())
+}
+
+#[test]
+fn scopes_and_uses(rt: HostRuntime) -> Result<(), Fail> {
+    let rows = [
         // shadowing and return
         (
             "local int x|{|look x|here x|local int x|look x|}|look x|look y",
@@ -586,37 +639,27 @@ fn scripts_answer(rt: HostRuntime) -> Result<(), Fail> {
     Ok(())
 }
 
+/// Declares ints with such a storage word, named by their numbers.
+fn declare_ints(alloc: Global, scopes: &mut Scopes, storage: &str, count: u32) -> Result<(), Fail> {
+    for k in 0..count {
+        let name = format!(in alloc; "n{k}")?;
+        declare_typed(alloc, scopes, &[storage, "int", name.as_str()], k)?;
+    }
+    Ok(())
+}
+
 #[test]
 fn a_hundred_thousand_names(rt: HostRuntime) -> Result<(), Fail> {
     let alloc = rt.alloc();
     let mut scopes = Scopes::new(alloc)?;
-    let mut out = String::new(alloc);
-    for k in 0..100_000u32 {
-        let name = format!(in alloc; "n{k}")?;
-        take(
-            alloc,
-            &mut scopes,
-            &["public", "int", name.as_str()],
-            k,
-            &mut out,
-        )?;
-    }
+    declare_ints(alloc, &mut scopes, "public", 100_000)?;
     scopes.enter()?;
-    for k in 0..100_000u32 {
-        let name = format!(in alloc; "n{k}")?;
-        take(
-            alloc,
-            &mut scopes,
-            &["extern", "int", name.as_str()],
-            k,
-            &mut out,
-        )?;
-        assert_eq!(rt; scopes.look(false, name.as_bytes()), Some(DeclId(k)));
-    }
-    scopes.leave();
-    assert_eq!(rt; scopes.ids(), 100_000);
+    declare_ints(alloc, &mut scopes, "extern", 1_000)?;
+    assert_eq!(rt; scopes.here(false, b"n999"), Some(DeclId(999)));
+    assert_eq!(rt; scopes.here(false, b"n1000"), None);
     assert_eq!(rt; scopes.look(false, b"n99999"), Some(DeclId(99_999)));
     assert_eq!(rt; scopes.look(true, b"n99999"), None);
+    assert_eq!(rt; scopes.ids(), 100_000);
     Ok(())
 }
 
