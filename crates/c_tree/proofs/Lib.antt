@@ -1,0 +1,4 @@
+pub mod SyntaxShapes
+pub mod SyntaxSorting
+pub mod SyntaxNodeValue
+pub mod SyntaxDerived
