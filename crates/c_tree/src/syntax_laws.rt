@@ -14,7 +14,7 @@ ghost use Rattle.c_model.specs.TerminalsOf.{terminals_of};
 ghost use Rattle.c_tree.specs.SyntaxSorts.{AreTokens, Sorted, sort_of};
 
 /// Each tree that the grammar derives from tokens of a list stands for a form of the sort of its nonterminal: an
-/// expression for an expression, a statement for a statement, and so on. So no symbol of a derivation is lost.
+/// expression for an expression, a statement for a statement, and so on.
 pub fn derived_trees_are_forms()
     ensures { (tokens : List CTok) (x : Rule) (s new : Scopes) (ts rest : List Terminal) (t : Tree) → AreTokens tokens ts → Derives c_language (rule x) s ts (t ∷ []) new rest → Sorted (sort_of x) (value_of tokens t).meaning }
 {}
