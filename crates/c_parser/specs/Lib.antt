@@ -2,3 +2,5 @@ pub mod View
 pub mod Weight
 pub mod Reading
 pub mod Parsing
+pub mod Ranks
+pub mod Answers

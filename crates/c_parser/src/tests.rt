@@ -1,4 +1,5 @@
-use crate::{Refusal, kinds, parse};
+use crate::kinds;
+use crate::unit::{Refusal, parse_terminals};
 use c_model::grammar::Terminal;
 
 fn token(kind: u8) -> Terminal {
@@ -32,7 +33,7 @@ fn type_of_a_parameter(rt: HostRuntime) {
         token(kinds::CLOSE_PARENTHESIS),
         token(kinds::SEMICOLON),
     ];
-    match parse(rt.alloc(), &tokens) {
+    match parse_terminals(rt.alloc(), &tokens) {
         Ok(trees) => assert!(rt; trees.len() == 1),
         Err(_) => assert!(rt; false),
     }
@@ -53,7 +54,7 @@ fn missing_operand(rt: HostRuntime) {
         token(kinds::PLUS),
         token(kinds::SEMICOLON),
     ];
-    match parse(rt.alloc(), &tokens) {
+    match parse_terminals(rt.alloc(), &tokens) {
         Err(Refusal::Fault(at)) => assert!(rt; at == 9),
         _ => assert!(rt; false),
     }
@@ -66,7 +67,7 @@ fn too_many_parts(rt: HostRuntime) {
     tokens[0] = token(kinds::INT);
     tokens[1] = name(1);
     tokens[2] = token(kinds::EQUALS);
-    match parse(rt.alloc(), &tokens) {
+    match parse_terminals(rt.alloc(), &tokens) {
         Err(Refusal::Deep(at)) => assert!(rt; at == 203),
         _ => assert!(rt; false),
     }
