@@ -5,3 +5,4 @@ pub mod Parsed
 pub mod RankLaws
 pub mod TerminalLaws
 pub mod DepthPlaces
+pub mod HidingLaws

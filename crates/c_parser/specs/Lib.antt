@@ -4,3 +4,4 @@ pub mod Reading
 pub mod Parsing
 pub mod Ranks
 pub mod Answers
+pub mod Hiding

@@ -3,6 +3,7 @@
 
 mod calls;
 mod declarations;
+mod entries;
 mod errors;
 mod forms;
 mod kinds;

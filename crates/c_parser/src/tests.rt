@@ -1,74 +1,61 @@
-use crate::kinds;
-use crate::unit::{Refusal, parse_terminals};
-use c_model::grammar::Terminal;
+//! Units and their faults, in the order of the productions. A text with `@` is no unit: the token behind the `@` is the
+//! first with which none can go on, or the text ends there. Any other is a unit.
+mod declarations;
+mod expressions;
+mod limits;
+mod names;
+mod statements;
 
-fn token(kind: u8) -> Terminal {
-    Terminal {
-        kind,
-        name: 0,
-        rank: 0,
+use crate::{ParseError, parse};
+use c_tokens::{CList, convert_tokens, pp_tokens};
+use cake_base::{Family, Place};
+use std::alloc::Global;
+use std::test::Fail;
+
+/// The tokens of a text that isn't long.
+fn tokens(alloc: Global, text: &str) -> Result<CList, Fail> {
+    if text.len() > 1_000_000 {
+        return Ok(CList::new(alloc));
+    }
+    let list = pp_tokens(alloc, text.as_bytes(), 0)?;
+    Ok(convert_tokens(alloc, &list)?)
+}
+
+/// The place in the first line at this column.
+fn place(column: usize) -> Place {
+    Place {
+        file: 0,
+        line: 1,
+        column: u32::try_from(column).unwrap_or(0),
+        order: 0,
     }
 }
 
-fn name(name: u32) -> Terminal {
-    Terminal {
-        kind: kinds::NAME,
-        name,
-        rank: 0,
+/// The column of the first faulty token, 0 for a unit, and the greatest number for a limit.
+fn fault_column(alloc: Global, text: &str) -> Result<u32, Fail> {
+    let toks = tokens(alloc, text)?;
+    match parse(alloc, &toks, place(text.len().saturating_add(1))) {
+        Ok(_) => Ok(0),
+        Err(ParseError::Fault(fault)) => {
+            if fault.rule.family == Family::S && fault.rule.number == 1 {
+                Ok(fault.place.column)
+            } else {
+                Ok(u32::MAX)
+            }
+        }
+        Err(ParseError::Limit(_)) => Ok(u32::MAX),
+        Err(ParseError::NoMemory) => Ok(u32::MAX),
     }
 }
 
-// typedef int T; T f(T);
-#[test]
-fn type_of_a_parameter(rt: HostRuntime) {
-    let tokens = [
-        token(kinds::TYPEDEF),
-        token(kinds::INT),
-        name(1),
-        token(kinds::SEMICOLON),
-        name(1),
-        name(2),
-        token(kinds::OPEN_PARENTHESIS),
-        name(1),
-        token(kinds::CLOSE_PARENTHESIS),
-        token(kinds::SEMICOLON),
-    ];
-    match parse_terminals(rt.alloc(), &tokens) {
-        Ok(trees) => assert!(rt; trees.len() == 1),
-        Err(_) => assert!(rt; false),
-    }
-}
-
-// int f(void) { return 1 + ;
-#[test]
-fn missing_operand(rt: HostRuntime) {
-    let tokens = [
-        token(kinds::INT),
-        name(1),
-        token(kinds::OPEN_PARENTHESIS),
-        token(kinds::VOID),
-        token(kinds::CLOSE_PARENTHESIS),
-        token(kinds::OPEN_BRACE),
-        token(kinds::RETURN),
-        token(kinds::INTEGER),
-        token(kinds::PLUS),
-        token(kinds::SEMICOLON),
-    ];
-    match parse_terminals(rt.alloc(), &tokens) {
-        Err(Refusal::Fault(at)) => assert!(rt; at == 9),
-        _ => assert!(rt; false),
-    }
-}
-
-// int x = ((((( ..
-#[test]
-fn too_many_parts(rt: HostRuntime) {
-    let mut tokens = [token(kinds::OPEN_PARENTHESIS); 1000];
-    tokens[0] = token(kinds::INT);
-    tokens[1] = name(1);
-    tokens[2] = token(kinds::EQUALS);
-    match parse_terminals(rt.alloc(), &tokens) {
-        Err(Refusal::Deep(at)) => assert!(rt; at == 203),
-        _ => assert!(rt; false),
+/// Whether the answer is the one that the text says.
+fn is_as_marked(alloc: Global, text: &str) -> Result<bool, Fail> {
+    match text.split_once('@') {
+        None => Ok(fault_column(alloc, text)? == 0),
+        Some((front, rest)) => {
+            let whole = format!(in alloc; "{front}{rest}")?;
+            let column = fault_column(alloc, whole.as_str())?;
+            Ok(column == place(front.len().saturating_add(1)).column)
+        }
     }
 }
