@@ -5,6 +5,7 @@ mod expressions;
 mod limits;
 mod names;
 mod statements;
+mod terminals;
 
 use crate::{ParseError, parse};
 use c_tokens::{CList, convert_tokens, pp_tokens};
