@@ -53,7 +53,8 @@ fn depth_limit(toks: &CList, at: usize, end: Place) -> LimitHit
 ///
 /// `end` is the place behind the last token. `ParseError::Fault` is S01 at the first token with which no unit can go on,
 /// or at `end` where the tokens are the front of a unit and no unit. `ParseError::Limit` is M06 at a token that stands
-/// in more than 1,000 nested parts. It takes time in proportion to the number of tokens.
+/// in more than 1,000 nested parts. `ParseError::NoMemory` comes for a list that no text gives, too: one with a word or
+/// a punctuator that has no number of the vocabulary, or with an identifier behind 4,294,967,296 tokens.
 pub fn parse(alloc: Global, toks: &CList, end: Place) -> Result<Items<Tree>, ParseError>
     ensures { Answers toks.now end result }
 {

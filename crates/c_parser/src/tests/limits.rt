@@ -2,6 +2,7 @@
 use super::{fault_column, place, tokens};
 use crate::{ParseError, parse};
 use c_tokens::CList;
+use std::alloc::Global;
 use std::test::Fail;
 
 #[test]
@@ -30,14 +31,19 @@ struct Nested<'a> {
     after: &'a str,
 }
 
-/// The column of the token that stands in too many parts, 0 for any other answer.
-fn limit_column(rt: &HostRuntime, nested: &Nested<'_>) -> Result<u32, Fail> {
-    let alloc = rt.alloc();
+/// The whole text.
+fn text(alloc: Global, nested: &Nested<'_>) -> Result<String, Fail> {
     let mut text = String::from_str(alloc, nested.before)?;
     for _ in 0..nested.times {
         text.push_str(nested.part)?;
     }
     text.push_str(nested.after)?;
+    Ok(text)
+}
+
+/// The column of the token that stands in too many parts, 0 for any other answer.
+fn limit_column(alloc: Global, nested: &Nested<'_>) -> Result<u32, Fail> {
+    let text = text(alloc, nested)?;
     let toks = tokens(alloc, text.as_str())?;
     match parse(alloc, &toks, place(0)) {
         Err(ParseError::Limit(hit)) => Ok(hit.place.column),
@@ -69,7 +75,23 @@ fn nested_parts(rt: HostRuntime) -> Result<(), Fail> {
         (Nested { before: "int ", part: "(", times: 2000, after: "x;" }, 1005),
     ];
     for (nested, column) in rows {
-        assert_eq!(rt; limit_column(&rt, &nested)?, column);
+        assert_eq!(rt; limit_column(rt.alloc(), &nested)?, column);
+    }
+    Ok(())
+}
+
+#[test]
+fn long_lists(rt: HostRuntime) -> Result<(), Fail> {
+    let rows = [
+        Nested { before: "void f(void) { ", part: "x;", times: 100_000, after: "}" },
+        Nested { before: "int a[] = { ", part: "1,", times: 60_000, after: "};" },
+        Nested { before: "int x", part: ", x", times: 10_000, after: ";" },
+        Nested { before: "typedef int T; ", part: "T x;", times: 50_000, after: "" },
+        Nested { before: "void f(void) { ", part: "{ typedef int T; T x; }", times: 10_000, after: "}" },
+    ];
+    for nested in rows {
+        let text = text(rt.alloc(), &nested)?;
+        assert_eq!(rt; fault_column(rt.alloc(), text.as_str())?, 0);
     }
     Ok(())
 }
