@@ -2,3 +2,4 @@ pub mod ReadLaws
 pub mod NumberLaws
 pub mod StateLaws
 pub mod SplitLaws
+pub mod ControlLaws
