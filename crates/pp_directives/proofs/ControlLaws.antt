@@ -1,10 +1,12 @@
 -- What the lines do that are text or no conditional's.
-use Rattle.std.proofs.Common.{◌≡◌, ℕ, suc, ◌+◌, ◌-◌, Bool, true, false, List, [], ◌∷◌, ◌++◌, map, length, drop, slice_get, Option, Some, None, Result, Ok, Err, refl, ap, sym, ◌∙◌, subst, cond, arith, append_assoc}
+use Rattle.std.proofs.Common.{◌≡◌, ℕ, suc, ◌+◌, ◌-◌, Bool, true, false, List, [], ◌∷◌, ◌++◌, map, length, drop, slice_get, Option, Some, None, Result, Ok, Err, refl, ap, sym, ◌∙◌, subst, cond, arith, append_assoc, ◌||◌, not}
+use Rattle.std.specs.Option.{is_some, is_none, option_map}
+use Rattle.c_model.specs.ConditionalLines.{name_is_defined, name_is_undefined}
 use Rattle.cake_base.specs.declared.places.Place.{Place}
 use Rattle.cake_base.specs.declared.rules.LimitHit.{LimitHit}
 use Rattle.c_model.specs.PpTokens.{PpToken}
-use Rattle.c_model.specs.Macros.{Macro, Macros, found, clashes, with_macro}
-use Rattle.c_model.specs.MacroDefinitions.{definition}
+use Rattle.c_model.specs.Macros.{Macro, Macros, same_text, found, defines, clashes, with_macro}
+use Rattle.c_model.specs.MacroDefinitions.{is_name, definition}
 use Rattle.c_model.specs.MacroArguments.{Run}
 use Rattle.c_model.specs.Pasting.{fresh}
 use Rattle.c_model.specs.Expansion as expansion
@@ -12,7 +14,7 @@ use Rattle.c_model.specs.ExpansionFunction.{expand}
 use Rattle.c_model.specs.Directives.{Part}
 use Rattle.c_model.specs.Pragmas.{diagnostic, assignment, severity_of, finding_number}
 use Rattle.c_model.specs.Processes.{Stop, Process, gives, Log, broken, passed}
-use Rattle.c_model.specs.Sources.{State, here, tokens_here, ranked_from}
+use Rattle.c_model.specs.Sources.{State, here, tokens_here, ranked_from, faults}
 use Rattle.c_model.specs.ControlLines.{MOST_TOKENS, appended, with_tokens, after_expansion, replaced, counted, text_run, parted, note_text, define_line, define_as, defined_as, with_name}
 use Rattle.pp_macros.specs.declared.errors.MacroError.{MacroError}
 use Rattle.pp_macros.specs.declared.errors.MacroError.TheVariants as macro_error
@@ -21,6 +23,7 @@ use Rattle.pp_macros.specs.Machine.{Expanded}
 use Rattle.pp_directives.specs.declared.errors.PrepError.{PrepError}
 use Rattle.pp_directives.specs.declared.errors.PrepError.TheVariants as prep_error
 use Rattle.pp_directives.specs.Errors.{of_macro}
+use Rattle.pp_directives.specs.Controls.{name_of}
 use Rattle.pp_directives.specs.Replaced.{Replaced, expansion}
 use Rattle.pp_directives.specs.Outcomes.{Does, Halts, halted}
 use Rattle.pp_directives.specs.Outputs.{Appends, new_tokens, too_many}
@@ -108,3 +111,41 @@ pub diagnostic-two : (toks : List PpToken) (t u : PpToken) → slice_get toks 2 
     diagnostic (drop 2 toks) ≡ assignment (severity_of t.spelling) (finding_number u.spelling)
 diagnostic-two toks t u first second none =
     ap diagnostic (at_rank toks 2 t first ∙ ap (λ z. t ∷ z) (at_rank toks 3 u second ∙ ap (λ z. u ∷ z) (past_end toks 4 none)))
+
+-- ---- names of macros
+
+pub with-name-some : {A : Type 0} (s : State) (at : Place) (ts : List PpToken) (f : List ℕ → Process A) (name : List ℕ) → name_of ts ≡ Some name → with_name s at ts f ≡ f name
+with-name-some s at [] f name = λ h. cc
+with-name-some s at (t ∷ ts) f name =
+    elim (is_name t) as (λ b. cond b (Some t.spelling) None ≡ Some name → cond b (f t.spelling) (faults s at 19) ≡ f name) [
+      | true ↦ λ h. let e : t.spelling ≡ name = cc in ap f e
+      | false ↦ λ h. cc
+    ]
+
+pub defines-found : (name : List ℕ) (es : List (List ℕ × Macro)) → is_some (found name es) ≡ defines name es
+defines-found name [] = refl
+defines-found name (e ∷ es) =
+    elim (same_text name e.0) as (λ b. is_some (cond b (Some e.1) (found name es)) ≡ (b || defines name es)) [
+      | true ↦ refl
+      | false ↦ defines-found name es
+    ]
+
+some-copied : {A B : Type 0} (o : Option A) (p : Option B) (f : A → B) → option_map f o ≡ p → is_some o ≡ is_some p
+some-copied None p f e = ap is_some e
+some-copied (Some x) p f e = ap is_some e
+
+pub is-defined : {A : Type 0} (p : Part) (s : State) (name : List ℕ) (o : Option A) (f : A → Macro) (b : Bool) → name_of p.tokens ≡ Some name →
+    option_map f o ≡ found name s.table.entries → b ≡ is_some o → name_is_defined p s ≡ gives (b, s)
+is-defined p s name o f b named looked is =
+    with-name-some s (here s p.at) p.tokens (λ n. gives (defines n s.table.entries, s)) name named
+    ∙ ap (λ z. gives (z, s)) (sym (is ∙ some-copied o (found name s.table.entries) f looked ∙ defines-found name s.table.entries))
+
+negated : (a b : Bool) → a ≡ not b → b ≡ not a
+negated a true e = ap not (sym e)
+negated a false e = ap not (sym e)
+
+pub is-undefined : {A : Type 0} (p : Part) (s : State) (name : List ℕ) (o : Option A) (f : A → Macro) (b : Bool) → name_of p.tokens ≡ Some name →
+    option_map f o ≡ found name s.table.entries → is_some o ≡ not b → name_is_undefined p s ≡ gives (b, s)
+is-undefined p s name o f b named looked is =
+    with-name-some s (here s p.at) p.tokens (λ n. gives (not (defines n s.table.entries), s)) name named
+    ∙ ap (λ z. gives (z, s)) (sym (negated (is_some o) b is ∙ ap not (some-copied o (found name s.table.entries) f looked ∙ defines-found name s.table.entries)))

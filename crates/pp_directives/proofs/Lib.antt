@@ -3,3 +3,4 @@ pub mod NumberLaws
 pub mod StateLaws
 pub mod SplitLaws
 pub mod ControlLaws
+pub mod NameLaws
