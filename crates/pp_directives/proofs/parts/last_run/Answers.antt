@@ -15,4 +15,4 @@ returns-in_ok-push-in-Some c = λ tokens.
     let empty : List PpToken → Part = λ z. record { kind = line.Text; at = c.args.at; tokens = z } in
     run-begun c.args.parts.now.items c.pop.new.self.items c.push.new.self.items c.in-Some.last (empty c.new.result) c.args.at tokens c.in-Some.ensures.items
     (ap (λ p. is_text p.kind) (sym c.last.view_is) ∙ sym c.is_text.ensures ∙ c.if-is_text.false)
-    (c.in_ok-push-in-Some.ensures.items ∙ ap (λ p. c.pop.new.self.items ++ p ∷ []) c.last.view_is) (ap empty c.new.ensures)
+    c.in_ok-push-in-Some.ensures.items (ap empty c.new.ensures)
