@@ -1,8 +1,8 @@
 -- The brackets of what a form derives match: a scan for the bracket that closes one before it passes over it.
-use Rattle.std.proofs.Common.{◌≡◌, ℕ, zero, suc, ◌+◌, ◌-◌, Bool, true, false, not, ◌&&◌, ◌||◌, List, [], ◌∷◌, length, refl, sym, ap, subst, ◌∙◌, arith}
+use Rattle.std.proofs.Common.{◌≡◌, ℕ, zero, suc, ◌+◌, ◌-◌, Bool, true, false, ◌&&◌, ◌||◌, List, [], ◌∷◌, length, refl, sym, ap, subst, ◌∙◌, arith}
 use Rattle.std.proofs.lemmas.Bool.{eqb-true}
 use Rattle.std.specs.Prelude.{◌==◌, if◌then◌else◌}
-use mathlib.Core.Logic.{◌⊎◌, inl, inr}
+use mathlib.Core.Logic.{inl, inr}
 use Rattle.c_model.specs.declared.grammar.Rule.{Rule}
 use Rattle.c_model.specs.declared.grammar.Rule.TheVariants as r
 use Rattle.c_model.specs.declared.grammar.Act.{Act}
@@ -16,7 +16,7 @@ use Rattle.c_model.specs.DecidedTable.{within, apart}
 use Rattle.c_model.specs.ParserTable.{table}
 use Rattle.c_model.specs.ParserSets.{tables}
 use Rattle.c_model.specs.ParserTests.{parsed, past_brackets}
-use Rattle.c_model.proofs.KindSets.{and_left, and_right, or_cases, not_true, within_mem, apart_mem, clash}
+use Rattle.c_model.proofs.KindSets.{and_left, and_right, or_cases, within_mem, apart_mem}
 use Rattle.c_model.proofs.TokenKinds.{decide}
 use Rattle.c_model.proofs.ClearBrackets.{holds, closing, at_closing, kept, closed_keeps}
 use Rattle.c_model.proofs.BracketKinds.{opening, brackets, opening_kind, not_both, closing_kind, IsHeld, held_kind, no_opening, no_closing}
@@ -220,9 +220,11 @@ by_held n s new t ts h b = record { at = λ k. subst (λ z. past_brackets (suc (
     more n k m = omega arith
 
 by_closing : (n : ℕ) (s new : Scopes) (t : Terminal) (ts : List Terminal) → is_closing t.kind ≡ true → s.brackets ≡ [] → new.brackets ≡ [] → Passes (suc n) n s (t ∷ ts) new ts
-by_closing n s new t ts h b c = record { at = λ k.
-    let p : past_brackets (suc (k + (suc n + 0))) (t ∷ ts) ≡ past_brackets (suc (k + (n + 0))) ts = ap (λ m. past_brackets m (t ∷ ts)) (one n k) ∙ over_closing (suc (suc (k + n))) (suc (k + (n + 0))) t ts h (not_one (k + n)) (two n k) in
-    subst (λ z. past_brackets (suc (k + (suc n + length z))) (t ∷ ts) ≡ past_brackets (suc (k + (n + length new.brackets))) ts) (sym b) (subst (λ z. past_brackets (suc (k + (suc n + 0))) (t ∷ ts) ≡ past_brackets (suc (k + (n + length z))) ts) (sym c) p) }
+by_closing n s new t ts h b c = record {
+  at = λ k.
+      let p : past_brackets (suc (k + (suc n + 0))) (t ∷ ts) ≡ past_brackets (suc (k + (n + 0))) ts = ap (λ m. past_brackets m (t ∷ ts)) (one n k) ∙ over_closing (suc (suc (k + n))) (suc (k + (n + 0))) t ts h (not_one (k + n)) (two n k) in
+      subst (λ z. past_brackets (suc (k + (suc n + length z))) (t ∷ ts) ≡ past_brackets (suc (k + (n + length new.brackets))) ts) (sym b) (subst (λ z. past_brackets (suc (k + (suc n + 0))) (t ∷ ts) ≡ past_brackets (suc (k + (n + length z))) ts) (sym c) p);
+}
   where
     one : (n k : ℕ) → suc (k + (suc n + 0)) ≡ suc (suc (k + n))
     one n k = omega arith
@@ -231,9 +233,11 @@ by_closing n s new t ts h b c = record { at = λ k.
     two n k = omega arith
 
 by_letting_go : (n : ℕ) (s : Scopes) (t : Terminal) (ts : List Terminal) → IsHeld s t → Passes n n s (t ∷ ts) (record s { brackets = without_last s.brackets }) ts
-by_letting_go n s t ts h = record { at = λ k.
-    let p : past_brackets (suc (k + (n + suc (length h.others)))) (t ∷ ts) ≡ past_brackets (suc (k + (n + length h.others))) ts = ap (λ m. past_brackets m (t ∷ ts)) (one n k (length h.others)) ∙ over_closing (suc (suc (k + (n + length h.others)))) (suc (k + (n + length h.others))) t ts h.closes (not_one _) (two n k (length h.others)) in
-    subst (λ z. past_brackets (suc (k + (n + length z))) (t ∷ ts) ≡ past_brackets (suc (k + (n + length (without_last z)))) ts) (sym h.held) p }
+by_letting_go n s t ts h = record {
+  at = λ k.
+      let p : past_brackets (suc (k + (n + suc (length h.others)))) (t ∷ ts) ≡ past_brackets (suc (k + (n + length h.others))) ts = ap (λ m. past_brackets m (t ∷ ts)) (one n k (length h.others)) ∙ over_closing (suc (suc (k + (n + length h.others)))) (suc (k + (n + length h.others))) t ts h.closes (not_one _) (two n k (length h.others)) in
+      subst (λ z. past_brackets (suc (k + (n + length z))) (t ∷ ts) ≡ past_brackets (suc (k + (n + length (without_last z)))) ts) (sym h.held) p;
+}
   where
     one : (n k m : ℕ) → suc (k + (n + suc m)) ≡ suc (suc (k + (n + m)))
     one n k m = omega arith

@@ -1,31 +1,24 @@
 -- What stands behind attributes decides whether a declaration, a label or a statement comes.
-use Rattle.std.proofs.Common.{◌≡◌, ℕ, Bool, true, false, not, ◌&&◌, ◌||◌, List, [], ◌∷◌, ◌++◌, refl, sym, ap, subst, ◌∙◌}
+use Rattle.std.proofs.Common.{◌≡◌, ℕ, Bool, true, false, ◌&&◌, ◌||◌, List, [], ◌∷◌, refl, sym, ap, subst, ◌∙◌}
 use Rattle.std.proofs.lemmas.Bool.{eqb-true}
-use Rattle.std.specs.Prelude.{◌==◌, if◌then◌else◌}
-use mathlib.Core.Logic.{◌⊎◌, inl, inr}
+use Rattle.std.specs.Prelude.{◌==◌}
 use Rattle.c_model.specs.declared.grammar.Rule.{Rule}
 use Rattle.c_model.specs.declared.grammar.Rule.TheVariants as r
 use Rattle.c_model.specs.declared.grammar.Act.TheVariants as act
 use Rattle.c_model.specs.declared.grammar.Test.TheVariants as test
 use Rattle.c_model.specs.declared.grammar.Terminal.{Terminal}
 use Rattle.c_model.specs.declared.grammar.Tree.{Tree}
-use Rattle.c_model.specs.GrammarForm.{Form, word, rule, when, maybe, many, loop, ◌then◌, ◌or◌, mem}
-use Rattle.c_model.specs.Grammar.{grammar, token}
-use Rattle.c_model.specs.Terminals as k
+use Rattle.c_model.specs.GrammarForm.{rule, mem}
 use Rattle.c_model.specs.NameScopes.{Scopes, kind, after}
-use Rattle.c_model.specs.Derivation.{Derives, Begins}
-use Rattle.c_model.specs.DecidedTable.{nullable, first, within, apart}
+use Rattle.c_model.specs.Derivation.{Derives}
+use Rattle.c_model.specs.DecidedTable.{apart}
 use Rattle.c_model.specs.ParserWalk.{ahead}
-use Rattle.c_model.specs.OpenTable.{open_table}
 use Rattle.c_model.specs.ParserTable.{table}
-use Rattle.c_model.specs.ParserSets.{tables, firsts, follows, hollow}
+use Rattle.c_model.specs.ParserSets.{tables, firsts}
 use Rattle.c_model.specs.ParserTests.{parsed, passes, past_attributes, sees, sees_attribute, sees_assertion, sees_attributes_alone, specifies, may_come, sees_label}
-use Rattle.c_model.proofs.KindSets.{apart_mem, within_mem, clash, or_cases, or_right}
-use Rattle.c_model.proofs.DecidedGrammar.{entry}
-use Rattle.c_model.proofs.ParserDecided.{quiet, checked}
-use Rattle.c_model.proofs.TokenKinds.{is_it, absent, raw, decide}
-use Rattle.c_model.proofs.RegainTable.{IsRegained, IsDerived, Clear, begins_with, starts}
-use Rattle.c_model.proofs.ScannedAttributes.{IsPassed, over_attribute, over_attributes, none_left}
+use Rattle.c_model.proofs.KindSets.{apart_mem, clash, or_right}
+use Rattle.c_model.proofs.TokenKinds.{is_it, absent, decide}
+use Rattle.c_model.proofs.ScannedAttributes.{over_attribute, over_attributes, none_left}
 
 pub missing : (F : List ℕ) (j : ℕ) → (j == 111) ≡ false → mem j F ≡ false → mem 116 F ≡ false → mem 117 F ≡ false → (s : Scopes) (ts : List Terminal) → mem (ahead tables parsed s ts) F ≡ true → sees j ts ≡ false
 unfolding ahead
@@ -90,7 +83,7 @@ and_false false = refl
 alone_not : (ts later : List Terminal) → past_attributes 0 ts ≡ later → sees 65 later ≡ false → sees_attributes_alone ts ≡ false
 alone_not ts later p h = let q : sees 65 (past_attributes 0 ts) ≡ false = ap (λ z. sees 65 z) p ∙ h in rw q (and_false (sees_attribute ts))
 
-specifiers_plain : IsPlain (firsts r.Specs)
+pub specifiers_plain : IsPlain (firsts r.Specs)
 unfolding firsts mem
 specifiers_plain = record { bracket = refl; first = refl; second = refl; closed = refl; stray = refl }
 
@@ -106,12 +99,12 @@ specified {mid = mid} {ts = ts} {later = later} c d h =
     let e = alone_not ts later b.past (missing (firsts r.Specs) 65 refl specifiers_end specifiers_plain.closed specifiers_plain.stray mid later h) in
     rw (a, e) refl
 
-comes : (n : Rule) (s : Scopes) (ts : List Terminal) → mem (ahead tables parsed s ts) (firsts n) ≡ true → mem 0 (firsts n) ≡ false → may_come n s ts ≡ true
+pub comes : (n : Rule) (s : Scopes) (ts : List Terminal) → mem (ahead tables parsed s ts) (firsts n) ≡ true → mem 0 (firsts n) ≡ false → may_come n s ts ≡ true
 unfolding ahead
 comes n s [] h z = absurd (clash _ h z)
 comes n s (t ∷ ts) h z = h
 
-no_end : mem 0 (firsts r.Specs) ≡ false
+pub no_end : mem 0 (firsts r.Specs) ≡ false
 unfolding firsts mem
 no_end = refl
 
@@ -122,7 +115,7 @@ declared {s = s} {mid = mid} {ts = ts} {later = later} c d h =
     or_right (sees_assertion ts || sees_attributes_alone ts) (specifies s ts) k
 
 -- something else does
-comes_not : (F : List ℕ) → apart tables F (firsts r.Specs) ≡ true → (s : Scopes) (ts : List Terminal) → mem (ahead tables parsed s ts) F ≡ true → may_come r.Specs s ts ≡ false
+pub comes_not : (F : List ℕ) → apart tables F (firsts r.Specs) ≡ true → (s : Scopes) (ts : List Terminal) → mem (ahead tables parsed s ts) F ≡ true → may_come r.Specs s ts ≡ false
 unfolding ahead
 comes_not F a s [] h = refl
 comes_not F a s (t ∷ ts) h = decide (mem (kind s t) (firsts r.Specs)) (λ e. apart_mem tables (kind s t) F (firsts r.Specs) a h e)

@@ -1,8 +1,8 @@
 -- Which tokens open and close brackets, told by their kinds in the scopes.
-use Rattle.std.proofs.Common.{◌≡◌, ℕ, suc, ◌+◌, Bool, true, false, not, ◌&&◌, ◌||◌, List, [], ◌∷◌, length, refl, sym, ap, subst, ◌∙◌}
+use Rattle.std.proofs.Common.{◌≡◌, ℕ, Bool, true, false, ◌||◌, List, [], ◌∷◌, refl, sym, subst}
 use Rattle.std.proofs.lemmas.Bool.{eqb-true}
 use Rattle.std.specs.Prelude.{◌==◌, if◌then◌else◌}
-use mathlib.Core.Logic.{◌⊎◌, inl, inr}
+use mathlib.Core.Logic.{inl, inr}
 use Rattle.c_model.specs.declared.grammar.Terminal.{Terminal}
 use Rattle.c_model.specs.GrammarForm.{mem}
 use Rattle.c_model.specs.DecidedTable.{apart}
@@ -10,7 +10,7 @@ use Rattle.c_model.specs.NameScopes.{Scopes, kind, bracket_kind, is_closing, is_
 use Rattle.c_model.specs.ParserSets.{tables}
 use Rattle.c_model.proofs.KindSets.{clash, or_cases, apart_mem, one_mem}
 use Rattle.c_model.proofs.TokenKinds.{raw, decide, own}
-use Rattle.c_model.proofs.ClearBrackets.{closing, at_closing}
+use Rattle.c_model.proofs.ClearBrackets.{closing}
 
 abbrev pub opening : List ℕ
 opening = 66 ∷ 68 ∷ 70 ∷ []

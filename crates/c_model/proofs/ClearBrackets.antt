@@ -19,7 +19,7 @@ use Rattle.c_model.specs.Grammar.{grammar}
 use Rattle.c_model.specs.ParserTests.{parsed}
 use Rattle.c_model.specs.ParserSets.{tables}
 use Rattle.c_model.proofs.KindSets.{and_left, and_right, or_cases, not_true, within_mem, clash}
-use mathlib.Core.Logic.{◌⊎◌, inl, inr}
+use mathlib.Core.Logic.{inl, inr}
 
 -- the act holds a bracket open, or lets it go
 unfoldable pub holds : Act → Bool

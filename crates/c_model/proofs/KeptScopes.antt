@@ -1,7 +1,7 @@
 -- Behind a nonterminal the frames are as before it, and so are the names, but those that it declares.
-use Rattle.std.proofs.Common.{◌≡◌, ℕ, Bool, true, false, not, ◌&&◌, ◌||◌, List, [], ◌∷◌, ◌++◌, length, take, refl, sym, ap, subst, ◌∙◌, append_assoc, arith}
-use Rattle.std.specs.Prelude.{if◌then◌else◌, ◌==◌}
-use mathlib.Core.Logic.{◌⊎◌, inl, inr}
+use Rattle.std.proofs.Common.{◌≡◌, ℕ, Bool, true, false, not, ◌&&◌, ◌||◌, List, [], ◌∷◌, ◌++◌, length, take, refl, sym, ap, subst, ◌∙◌, append_assoc}
+use Rattle.std.specs.Prelude.{if◌then◌else◌}
+use mathlib.Core.Logic.{inl, inr}
 use Rattle.c_model.specs.declared.grammar.Rule.{Rule}
 use Rattle.c_model.specs.declared.grammar.Rule.TheVariants as r
 use Rattle.c_model.specs.declared.grammar.Act.{Act}
@@ -12,7 +12,7 @@ use Rattle.c_model.specs.declared.grammar.Frame.{Frame}
 use Rattle.c_model.specs.declared.grammar.Reading.{Reading}
 use Rattle.c_model.specs.declared.grammar.Tree.{Tree}
 use Rattle.c_model.specs.GrammarForm.{Form, word, rule, empty, ◌then◌, ◌or◌, maybe, many, when, loop}
-use Rattle.c_model.specs.NameScopes.{Scopes, after, close, leave, leave_parameters, parameters, with_frame, fresh}
+use Rattle.c_model.specs.NameScopes.{Scopes, after, close, leave, leave_parameters, parameters}
 use Rattle.c_model.specs.Derivation.{Derives}
 use Rattle.c_model.specs.ParserTable.{table}
 use Rattle.c_model.specs.ParserTests.{parsed}

@@ -48,6 +48,8 @@ pub mod RegainParameter
 pub mod KeptScopes
 pub mod ScannedGroups
 pub mod ScannedSpecifiers
+pub mod PastDeclarators
+pub mod RegainFunction
 pub mod Loosen
 pub mod RegainUnit
 pub mod PpNumberLaws

@@ -1,13 +1,12 @@
 -- Where a test chooses, either alternative may be taken without it.
-use Rattle.std.proofs.Common.{◌≡◌, true, false, List, refl, subst}
+use Rattle.std.proofs.Common.{◌≡◌, true, false, List}
 use Rattle.c_model.specs.declared.grammar.Rule.{Rule}
-use Rattle.c_model.specs.declared.grammar.Rule.TheVariants as r
 use Rattle.c_model.specs.declared.grammar.Test.{Test}
 use Rattle.c_model.specs.declared.grammar.Test.TheVariants as test
 use Rattle.c_model.specs.declared.grammar.Terminal.{Terminal}
 use Rattle.c_model.specs.declared.grammar.Tree.{Tree}
 use Rattle.c_model.specs.GrammarForm.{Form, word, rule, empty, ◌then◌, ◌or◌, maybe, many, when, loop}
-use Rattle.c_model.specs.NameScopes.{Scopes, start}
+use Rattle.c_model.specs.NameScopes.{Scopes}
 use Rattle.c_model.specs.Derivation.{Language, Derives, Begins}
 use Rattle.c_model.specs.Untested.{untested, open_choice, either}
 use Rattle.c_model.specs.ParserTests.{parsed, passes}

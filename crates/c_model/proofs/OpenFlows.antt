@@ -1,5 +1,5 @@
 -- What may follow each form of the open table, and where no bracket is held open before a nonterminal.
-use Rattle.std.proofs.Common.{◌≡◌, ℕ, Bool, true, false, not, ◌&&◌, ◌||◌, List, [], ◌∷◌, ◌++◌, refl}
+use Rattle.std.proofs.Common.{◌≡◌, ℕ, Bool, true, not, ◌&&◌, ◌||◌, List, ◌++◌, refl}
 use Rattle.c_model.specs.declared.grammar.Rule.{Rule}
 use Rattle.c_model.specs.declared.grammar.Rule.TheVariants as r
 use Rattle.c_model.specs.GrammarForm.{Form, word, rule, empty, ◌then◌, ◌or◌, maybe, many, when, loop, mem}

@@ -1,5 +1,5 @@
 -- The test of a parenthesis round an abstract declarator loses nothing.
-use Rattle.std.proofs.Common.{◌≡◌, ℕ, Bool, true, false, not, ◌&&◌, ◌||◌, List, [], ◌∷◌, ◌++◌, refl, sym, ap, subst}
+use Rattle.std.proofs.Common.{◌≡◌, Bool, true, false, not, ◌&&◌, ◌||◌, List, [], ◌∷◌, refl, sym, subst}
 use Rattle.std.proofs.lemmas.Bool.{eqb-true}
 use Rattle.std.specs.Prelude.{◌==◌, if◌then◌else◌}
 use mathlib.Core.Logic.{◌⊎◌, inl, inr}
@@ -8,22 +8,22 @@ use Rattle.c_model.specs.declared.grammar.Act.TheVariants as act
 use Rattle.c_model.specs.declared.grammar.Terminal.{Terminal}
 use Rattle.c_model.specs.declared.grammar.Tree.{Tree}
 use Rattle.c_model.specs.declared.grammar.Test.TheVariants as test
-use Rattle.c_model.specs.GrammarForm.{Form, word, rule, when, maybe, many, loop, ◌then◌, ◌or◌, mem}
-use Rattle.c_model.specs.Grammar.{grammar, token}
+use Rattle.c_model.specs.GrammarForm.{Form, word, rule, when, maybe, loop, ◌then◌, ◌or◌, mem}
+use Rattle.c_model.specs.Grammar.{grammar}
 use Rattle.c_model.specs.Terminals as k
-use Rattle.c_model.specs.NameScopes.{Scopes, kind, after, bracket_kind, is_closing, closes, is_type}
+use Rattle.c_model.specs.NameScopes.{Scopes, kind, after}
 use Rattle.c_model.specs.Derivation.{Derives, Begins}
-use Rattle.c_model.specs.DecidedTable.{nullable, first, within, apart}
+use Rattle.c_model.specs.DecidedTable.{nullable, first}
 use Rattle.c_model.specs.ParserWalk.{ahead}
 use Rattle.c_model.specs.OpenTable.{open_table}
 use Rattle.c_model.specs.ParserTable.{table}
-use Rattle.c_model.specs.ParserSets.{tables, firsts, follows, hollow}
-use Rattle.c_model.specs.ParserTests.{parsed, passes, opens_abstract, sees_abstract, sees_attribute, sees}
-use Rattle.c_model.proofs.KindSets.{apart_mem, within_mem, clash, or_cases, mem_left}
-use Rattle.c_model.proofs.DecidedGrammar.{step, entry, lead}
+use Rattle.c_model.specs.ParserSets.{tables, firsts, hollow}
+use Rattle.c_model.specs.ParserTests.{parsed, opens_abstract, sees_abstract, sees}
+use Rattle.c_model.proofs.KindSets.{clash}
+use Rattle.c_model.proofs.DecidedGrammar.{step, entry}
 use Rattle.c_model.proofs.ParserDecided.{quiet, checked}
-use Rattle.c_model.proofs.TokenKinds.{is_it, absent, shown, decide}
-use Rattle.c_model.proofs.RegainTable.{IsRegained, IsDerived, begins_with}
+use Rattle.c_model.proofs.TokenKinds.{is_it, absent, shown}
+use Rattle.c_model.proofs.RegainTable.{IsRegained, begins_with}
 
 -- no token is read, or a `[` alone
 pub data IsLittle : List Terminal → List Terminal → Type 0 where
@@ -262,7 +262,7 @@ no_parenthesis u h = let q : u.kind ≡ 68 = eqb-true u.kind 68 h in rw q refl
 and_bracket : {s : Scopes} {t u : Terminal} {us : List Terminal} (b : Bool) → sees_abstract (t ∷ u ∷ us) ≡ b → mem (kind s t) (66 ∷ []) ≡ true → (u.kind == 68) ≡ true → Begins parsed choice s (t ∷ u ∷ us) us
 unfolding table
 and_bracket {s = s} {t = t} {u = u} {us = us} true b e h =
-    Begins.in_chosen b (Begins.in_then (Derives.a_word e) (Begins.in_first (Begins.in_rule (Begins.in_right (Begins.in_rule (Begins.in_first (Begins.in_other (closed u us (no_parenthesis u h)) (Begins.in_rule (Begins.in_left (Begins.in_first (Begins.in_word (bracket_shown (after act.OpenDeclarator s t) u h)))))))))))) 
+    Begins.in_chosen b (Begins.in_then (Derives.a_word e) (Begins.in_first (Begins.in_rule (Begins.in_right (Begins.in_rule (Begins.in_first (Begins.in_other (closed u us (no_parenthesis u h)) (Begins.in_rule (Begins.in_left (Begins.in_first (Begins.in_word (bracket_shown (after act.OpenDeclarator s t) u h))))))))))))
 and_bracket {s = s} {t = t} {u = u} false b e h =
     Begins.in_other b (Begins.in_rule (Begins.in_right (Begins.in_then (Derives.a_word e) (Begins.in_first (Begins.in_maybe (Begins.in_rule (Begins.in_first (Begins.in_rule (Begins.in_first (Begins.in_rule (Begins.in_turn (Begins.in_rule (Begins.in_first (Begins.in_word (bracket_shown (after act.OpenParameters s t) u h)))))))))))))))
 

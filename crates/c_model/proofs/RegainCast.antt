@@ -1,6 +1,5 @@
 -- The tests of a type name in parentheses, as a cast or behind `sizeof`, lose nothing.
-use Rattle.std.proofs.Common.{◌≡◌, ℕ, suc, ◌+◌, length, Bool, true, false, not, ◌&&◌, ◌||◌, List, [], ◌∷◌, ◌++◌, refl, sym, ap, subst, ◌∙◌}
-use Rattle.std.proofs.lemmas.Bool.{eqb-true}
+use Rattle.std.proofs.Common.{◌≡◌, ℕ, suc, ◌+◌, length, Bool, true, false, not, ◌&&◌, List, [], ◌∷◌, refl, sym, ap, subst, ◌∙◌}
 use Rattle.std.specs.Prelude.{◌==◌, if◌then◌else◌}
 use mathlib.Core.Logic.{◌⊎◌, inl, inr}
 use Rattle.c_model.specs.declared.grammar.Rule.{Rule}
@@ -9,29 +8,27 @@ use Rattle.c_model.specs.declared.grammar.Act.TheVariants as act
 use Rattle.c_model.specs.declared.grammar.Test.TheVariants as test
 use Rattle.c_model.specs.declared.grammar.Terminal.{Terminal}
 use Rattle.c_model.specs.declared.grammar.Tree.{Tree}
-use Rattle.c_model.specs.declared.grammar.Tree.TheVariants as tree
-use Rattle.c_model.specs.GrammarForm.{Form, word, rule, when, maybe, many, loop, ◌then◌, ◌or◌, mem}
+use Rattle.c_model.specs.GrammarForm.{Form, word, rule, when, ◌then◌, ◌or◌, mem}
 use Rattle.c_model.specs.Grammar.{grammar, token}
 use Rattle.c_model.specs.Terminals as k
 use Rattle.c_model.specs.NameScopes.{Scopes, kind, after}
 use Rattle.c_model.specs.Derivation.{Derives, Begins}
-use Rattle.c_model.specs.DecidedTable.{nullable, first, within, apart}
+use Rattle.c_model.specs.DecidedTable.{nullable, first, within}
 use Rattle.c_model.specs.ParserWalk.{ahead}
 use Rattle.c_model.specs.OpenTable.{open_table}
 use Rattle.c_model.specs.ParserTable.{table}
 use Rattle.c_model.specs.ParserSets.{tables, firsts, follows, hollow}
 use Rattle.c_model.specs.ParserTests.{parsed, passes, sees, sees_cast, sees_type_name, past_brackets}
-use Rattle.c_model.proofs.KindSets.{apart_mem, within_mem, clash, or_cases, or_right}
+use Rattle.c_model.proofs.KindSets.{within_mem, clash}
 use Rattle.c_model.proofs.DecidedGrammar.{entry}
 use Rattle.c_model.proofs.ParserDecided.{quiet, checked}
-use Rattle.c_model.proofs.TokenKinds.{is_it, absent, raw, decide}
+use Rattle.c_model.proofs.TokenKinds.{is_it, absent}
 use Rattle.c_model.proofs.ClearBrackets.{is_balanced, closing, at_closing}
 use Rattle.c_model.proofs.BracketKinds.{opening, opening_kind, closing_kind}
 use Rattle.c_model.proofs.BalancedForms.{even, level, passes_over, over_opening, last_closing}
 use Rattle.c_model.proofs.BehindAttributes.{missing}
-use Rattle.c_model.proofs.RegainPrimary.{parenthesis, only_parenthesis, type_name, type_seen, sees_type, opens}
-use Rattle.c_model.proofs.RegainTable.{IsRegained, IsDerived, Clear, begins_with, starts}
-use Rattle.c_model.proofs.RegainLoops.{then_begun}
+use Rattle.c_model.proofs.RegainPrimary.{parenthesis, only_parenthesis, type_name, type_seen, sees_type}
+use Rattle.c_model.proofs.RegainTable.{IsRegained, begins_with, starts}
 
 -- a type name in parentheses, and a cast
 abbrev type_operand : Form

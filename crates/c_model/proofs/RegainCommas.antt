@@ -1,8 +1,8 @@
 -- The tests of a last `,` in braces and among enumerators lose nothing.
-use Rattle.std.proofs.Common.{◌≡◌, ℕ, Bool, true, false, not, ◌&&◌, ◌||◌, List, [], ◌∷◌, ◌++◌, refl, subst, sym}
+use Rattle.std.proofs.Common.{◌≡◌, ℕ, Bool, true, false, not, ◌&&◌, ◌||◌, List, [], ◌∷◌, refl, subst, sym}
 use Rattle.std.proofs.lemmas.Bool.{eqb-true}
 use Rattle.std.specs.Prelude.{◌==◌, if◌then◌else◌}
-use mathlib.Core.Logic.{◌⊎◌, inl, inr}
+use mathlib.Core.Logic.{inl, inr}
 use Rattle.c_model.specs.declared.grammar.Rule.{Rule}
 use Rattle.c_model.specs.declared.grammar.Rule.TheVariants as r
 use Rattle.c_model.specs.declared.grammar.Act.{Act}
@@ -14,20 +14,19 @@ use Rattle.c_model.specs.declared.grammar.Tree.{Tree}
 use Rattle.c_model.specs.GrammarForm.{Form, word, rule, ◌then◌, maybe, many, loop, when, mem}
 use Rattle.c_model.specs.Grammar.{grammar, token}
 use Rattle.c_model.specs.Terminals as k
-use Rattle.c_model.specs.NameScopes.{Scopes, kind, after, bracket_kind, is_closing, closes, is_type}
+use Rattle.c_model.specs.NameScopes.{Scopes, kind, after, bracket_kind, closes, is_type}
 use Rattle.c_model.specs.Derivation.{Derives, Begins}
-use Rattle.c_model.specs.DecidedTable.{first, nullable}
+use Rattle.c_model.specs.DecidedTable.{first}
 use Rattle.c_model.specs.ParserWalk.{ahead}
 use Rattle.c_model.specs.OpenTable.{open_table, enumerators}
 use Rattle.c_model.specs.ParserTable.{table}
-use Rattle.c_model.specs.ParserSets.{tables, firsts, follows, hollow}
+use Rattle.c_model.specs.ParserSets.{tables, firsts, hollow}
 use Rattle.c_model.specs.ParserTests.{parsed, passes, sees, sees_name}
-use Rattle.c_model.proofs.KindSets.{clash, mem_one, one_mem}
 use Rattle.c_model.proofs.DecidedGrammar.{entry, begun}
 use Rattle.c_model.proofs.ParserDecided.{quiet, checked}
 use Rattle.c_model.proofs.TokenKinds.{is_it, absent}
 use Rattle.c_model.proofs.RegainLoops.{Seen, looped, begun_list, then_begun}
-use Rattle.c_model.proofs.RegainTable.{IsRegained, IsDerived, begins_with}
+use Rattle.c_model.proofs.RegainTable.{IsRegained, begins_with}
 
 comma : (s : Scopes) (t : Terminal) → mem (kind s t) (64 ∷ []) ≡ true → (t.kind == 64) ≡ true
 unfolding mem

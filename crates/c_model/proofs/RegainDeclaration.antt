@@ -1,33 +1,30 @@
 -- The tests before a declaration, a label and a statement lose nothing.
-use Rattle.std.proofs.Common.{◌≡◌, ℕ, Bool, true, false, not, ◌&&◌, ◌||◌, List, [], ◌∷◌, ◌++◌, refl, sym, ap, subst, ◌∙◌}
-use Rattle.std.proofs.lemmas.Bool.{eqb-true}
+use Rattle.std.proofs.Common.{◌≡◌, Bool, true, false, not, ◌||◌, List, [], ◌∷◌, refl, sym, subst}
 use Rattle.std.specs.Prelude.{◌==◌, if◌then◌else◌}
-use mathlib.Core.Logic.{◌⊎◌, inl, inr}
-use Rattle.c_model.specs.declared.grammar.Rule.{Rule}
+use mathlib.Core.Logic.{inl, inr}
 use Rattle.c_model.specs.declared.grammar.Rule.TheVariants as r
 use Rattle.c_model.specs.declared.grammar.Act.TheVariants as act
 use Rattle.c_model.specs.declared.grammar.Test.TheVariants as test
 use Rattle.c_model.specs.declared.grammar.Terminal.{Terminal}
 use Rattle.c_model.specs.declared.grammar.Tree.{Tree}
-use Rattle.c_model.specs.GrammarForm.{Form, word, rule, when, maybe, many, loop, ◌then◌, ◌or◌, mem}
+use Rattle.c_model.specs.GrammarForm.{Form, word, rule, when, maybe, many, ◌then◌, ◌or◌, mem}
 use Rattle.c_model.specs.Grammar.{grammar, token}
 use Rattle.c_model.specs.Terminals as k
-use Rattle.c_model.specs.NameScopes.{Scopes, kind, after}
+use Rattle.c_model.specs.NameScopes.{Scopes}
 use Rattle.c_model.specs.Derivation.{Derives, Begins}
-use Rattle.c_model.specs.DecidedTable.{nullable, first, within, apart}
+use Rattle.c_model.specs.DecidedTable.{nullable, first}
 use Rattle.c_model.specs.ParserWalk.{ahead}
 use Rattle.c_model.specs.OpenTable.{open_table}
 use Rattle.c_model.specs.ParserTable.{table}
-use Rattle.c_model.specs.ParserSets.{tables, firsts, follows, hollow}
-use Rattle.c_model.specs.ParserTests.{parsed, passes, past_attributes, sees, sees_attribute, sees_assertion, sees_attributes_alone, specifies, may_come, sees_label}
-use Rattle.c_model.proofs.KindSets.{apart_mem, within_mem, clash, or_cases, or_right}
+use Rattle.c_model.specs.ParserSets.{tables, firsts, hollow}
+use Rattle.c_model.specs.ParserTests.{parsed, passes, sees_assertion, sees_attributes_alone}
 use Rattle.c_model.proofs.DecidedGrammar.{entry}
 use Rattle.c_model.proofs.ParserDecided.{quiet, checked}
-use Rattle.c_model.proofs.TokenKinds.{is_it, absent, raw, decide}
-use Rattle.c_model.proofs.RegainTable.{IsRegained, IsDerived, Clear, begins_with, starts}
+use Rattle.c_model.proofs.TokenKinds.{raw}
+use Rattle.c_model.proofs.RegainTable.{IsRegained, begins_with}
 use Rattle.c_model.proofs.DecidedGrammar.{begun}
 use Rattle.c_model.proofs.ClearBrackets.{is_balanced}
-use Rattle.c_model.proofs.BehindAttributes.{IsPlain, IsBehind, missing, open_behind, specified, declared, undeclared, unlabelled, not_alone, alone, attribute_seen}
+use Rattle.c_model.proofs.BehindAttributes.{specified, alone}
 
 abbrev pub named : Form
 named = rule r.Attrs then rule r.Specs then maybe (rule r.Initdecl then many (word (k.Comma ∷ []) act.NextDeclarator then rule r.Initdecl)) then word (k.Semicolon ∷ []) act.EndDeclaration

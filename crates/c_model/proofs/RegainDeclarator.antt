@@ -1,39 +1,28 @@
 -- The test that tells a parameter's declarator from an abstract one loses nothing.
-use Rattle.std.proofs.Common.{Option, Some, None, arith, ◌-◌, ◌≡◌, ℕ, suc, ◌+◌, length, Bool, true, false, not, ◌&&◌, ◌||◌, List, [], ◌∷◌, ◌++◌, refl, sym, ap, subst, ◌∙◌}
+use Rattle.std.proofs.Common.{◌≡◌, ℕ, Bool, true, false, not, ◌&&◌, ◌||◌, List, [], ◌∷◌, refl, sym, ap, subst, ◌∙◌}
 use Rattle.std.proofs.lemmas.Bool.{eqb-true}
 use Rattle.std.specs.Prelude.{◌==◌, if◌then◌else◌}
-use mathlib.Core.Logic.{◌⊎◌, inl, inr}
-use Rattle.c_model.specs.declared.grammar.Rule.{Rule}
 use Rattle.c_model.specs.declared.grammar.Rule.TheVariants as r
 use Rattle.c_model.specs.declared.grammar.Act.TheVariants as act
-use Rattle.c_model.specs.declared.grammar.Test.TheVariants as test
 use Rattle.c_model.specs.declared.grammar.Terminal.{Terminal}
-use Rattle.c_model.specs.declared.grammar.Entry.{Entry}
 use Rattle.c_model.specs.declared.grammar.Before.{Before}
-use Rattle.c_model.specs.declared.grammar.Before.TheVariants.{AtStart, BehindStar, BehindQualifier, Inside}
+use Rattle.c_model.specs.declared.grammar.Before.TheVariants.{AtStart, BehindStar}
 use Rattle.c_model.specs.declared.grammar.Tree.{Tree}
-use Rattle.c_model.specs.declared.grammar.Tree.TheVariants as tree
-use Rattle.c_model.specs.GrammarForm.{Form, word, rule, when, maybe, many, loop, ◌then◌, ◌or◌, mem}
-use Rattle.c_model.specs.Grammar.{grammar, token}
+use Rattle.c_model.specs.GrammarForm.{Form, word, rule, many, ◌then◌, mem}
 use Rattle.c_model.specs.Terminals as k
 use Rattle.c_model.specs.NameScopes.{Scopes, kind, after, is_type, is_closing, is_given, closes, bracket_kind}
-use Rattle.c_model.specs.Derivation.{Derives, Begins}
-use Rattle.c_model.specs.DecidedTable.{nullable, first, within, apart}
+use Rattle.c_model.specs.Derivation.{Derives}
+use Rattle.c_model.specs.DecidedTable.{nullable, first, apart}
 use Rattle.c_model.specs.ParserWalk.{ahead}
-use Rattle.c_model.specs.OpenTable.{open_table}
 use Rattle.c_model.specs.ParserTable.{table}
-use Rattle.c_model.specs.ParserSets.{tables, firsts, follows, hollow}
-use Rattle.c_model.specs.ParserTests.{parsed, passes, sees, sees_attribute, names_declarator, declarator_step, inside_step, outside_step, is_name, declares, is_qualifier, goes_on}
-use Rattle.c_model.proofs.KindSets.{apart_mem, within_mem, clash, or_cases, or_right}
-use Rattle.c_model.proofs.DecidedGrammar.{entry, begun}
-use Rattle.c_model.proofs.ParserDecided.{quiet, checked}
-use Rattle.c_model.proofs.TokenKinds.{is_it, absent, raw, decide, own, shown}
-use Rattle.c_model.proofs.ClearBrackets.{is_balanced, clear, parsed_clear}
-use Rattle.c_model.proofs.ScannedAttributes.{over_attributes, IsPassed}
-use Rattle.c_model.proofs.ScannedDeclarators.{is_inside, is_star, is_behind, IsAt, at_star, at_parenthesis, at_other, IsStill, over_many, over_loop, IsAfter, over_qualifiers}
-use Rattle.c_model.proofs.RegainAbstract.{IsLittle, choice, inner, listed, listed_begun, choice_begun, choice_derived, in_array, array, no_bracket, attribute_begun, Shuts, only_parenthesis, closed, by_array}
-use Rattle.c_model.proofs.BehindAttributes.{missing, no_attribute, attribute_seen}
-use Rattle.c_model.proofs.RegainTable.{IsRegained, IsDerived, Clear, begins_with, starts}
+use Rattle.c_model.specs.ParserSets.{tables, firsts}
+use Rattle.c_model.specs.ParserTests.{parsed, sees, sees_attribute, names_declarator, is_name, declares, is_qualifier}
+use Rattle.c_model.proofs.KindSets.{apart_mem, clash, or_right}
+use Rattle.c_model.proofs.TokenKinds.{is_it, absent, raw, decide}
+use Rattle.c_model.proofs.ScannedDeclarators.{is_inside, is_star, is_behind, IsAt, at_star, at_parenthesis, at_other, over_many, over_loop, over_qualifiers}
+use Rattle.c_model.proofs.RegainAbstract.{listed, in_array}
+use Rattle.c_model.proofs.BehindAttributes.{no_attribute}
+use Rattle.c_model.proofs.RegainTable.{starts}
 
 pub star : (s : Scopes) (t : Terminal) → mem (kind s t) (74 ∷ []) ≡ true → (t.kind == 74) ≡ true
 unfolding mem
@@ -102,7 +91,7 @@ ungiven j h g = rw (h, third (j == 112) (j == 113) (j == 116) g) refl
     third false true c h = absurd (cc)
     third false false c h = refl
 
-no_own : (bs : List ℕ) (j : ℕ) → (j == 111) ≡ false → mem (bracket_kind bs j) (111 ∷ 113 ∷ []) ≡ false
+pub no_own : (bs : List ℕ) (j : ℕ) → (j == 111) ≡ false → mem (bracket_kind bs j) (111 ∷ 113 ∷ []) ≡ false
 no_own [] j h = alone_kind (is_given j) j (ungiven j h)
 no_own (last ∷ bs) j h = two_kinds (is_closing j) (closes last j) (is_given j) j (ungiven j h)
 

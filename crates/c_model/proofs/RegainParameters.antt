@@ -1,25 +1,24 @@
 -- The test of a `,` between parameters loses nothing.
-use Rattle.std.proofs.Common.{◌≡◌, ℕ, Bool, true, false, not, ◌&&◌, ◌||◌, List, [], ◌∷◌, refl, subst, sym}
+use Rattle.std.proofs.Common.{◌≡◌, Bool, true, false, not, ◌&&◌, List, [], ◌∷◌, refl, subst, sym}
 use Rattle.std.specs.Prelude.{◌==◌}
-use mathlib.Core.Logic.{◌⊎◌, inl, inr}
+use mathlib.Core.Logic.{inl, inr}
 use Rattle.c_model.specs.declared.grammar.Rule.TheVariants as r
 use Rattle.c_model.specs.declared.grammar.Act.TheVariants as act
 use Rattle.c_model.specs.declared.grammar.Test.TheVariants as test
 use Rattle.c_model.specs.declared.grammar.Terminal.{Terminal}
 use Rattle.c_model.specs.declared.grammar.Tree.{Tree}
-use Rattle.c_model.specs.GrammarForm.{Form, word, rule, ◌then◌, maybe, many, loop, mem}
+use Rattle.c_model.specs.GrammarForm.{Form, word, rule, ◌then◌, maybe, loop, mem}
 use Rattle.c_model.specs.Grammar.{grammar, token}
 use Rattle.c_model.specs.Terminals as k
 use Rattle.c_model.specs.NameScopes.{Scopes, kind, after}
 use Rattle.c_model.specs.Derivation.{Derives, Begins}
-use Rattle.c_model.specs.DecidedTable.{first, nullable}
+use Rattle.c_model.specs.DecidedTable.{first}
 use Rattle.c_model.specs.ParserWalk.{ahead}
 use Rattle.c_model.specs.OpenTable.{open_table}
 use Rattle.c_model.specs.ParserTable.{table}
 use Rattle.c_model.specs.ParserSets.{tables, firsts, follows, hollow}
 use Rattle.c_model.specs.ParserTests.{parsed, passes, sees}
-use Rattle.c_model.proofs.KindSets.{clash}
-use Rattle.c_model.proofs.DecidedGrammar.{step, entry}
+use Rattle.c_model.proofs.DecidedGrammar.{entry}
 use Rattle.c_model.proofs.ParserDecided.{quiet, checked}
 use Rattle.c_model.proofs.TokenKinds.{is_it, absent}
 use Rattle.c_model.proofs.RegainLoops.{Seen, looped, begun_list}

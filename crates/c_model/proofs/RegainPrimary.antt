@@ -1,28 +1,28 @@
 -- The test of a parenthesized expression loses nothing.
-use Rattle.std.proofs.Common.{◌≡◌, ℕ, Bool, true, false, not, ◌&&◌, ◌||◌, List, [], ◌∷◌, refl, sym, ap, subst}
+use Rattle.std.proofs.Common.{◌≡◌, Bool, true, false, not, ◌&&◌, List, [], ◌∷◌, refl, sym, ap, subst}
 use Rattle.std.specs.Prelude.{◌==◌}
-use mathlib.Core.Logic.{◌⊎◌, inl, inr}
+use mathlib.Core.Logic.{inl, inr}
 use Rattle.c_model.specs.declared.grammar.Rule.TheVariants as r
 use Rattle.c_model.specs.declared.grammar.Act.TheVariants as act
 use Rattle.c_model.specs.declared.grammar.Terminal.{Terminal}
 use Rattle.c_model.specs.declared.grammar.Tree.{Tree}
 use Rattle.c_model.specs.declared.grammar.Test.TheVariants as test
-use Rattle.c_model.specs.GrammarForm.{Form, word, rule, when, ◌then◌, ◌or◌, mem}
+use Rattle.c_model.specs.GrammarForm.{Form, rule, when, ◌then◌, ◌or◌, mem}
 use Rattle.c_model.specs.Grammar.{grammar, token}
 use Rattle.c_model.specs.Terminals as k
 use Rattle.c_model.specs.NameScopes.{Scopes, kind, after}
 use Rattle.c_model.specs.Derivation.{Derives, Begins}
-use Rattle.c_model.specs.DecidedTable.{nullable, first, within, apart}
+use Rattle.c_model.specs.DecidedTable.{first, within, apart}
 use Rattle.c_model.specs.ParserWalk.{ahead}
 use Rattle.c_model.specs.OpenTable.{open_table}
 use Rattle.c_model.specs.ParserTable.{table}
-use Rattle.c_model.specs.ParserSets.{tables, firsts, follows, hollow}
+use Rattle.c_model.specs.ParserSets.{tables, firsts, hollow}
 use Rattle.c_model.specs.ParserTests.{parsed, passes, begins_type, sees_type_name}
 use Rattle.c_model.proofs.KindSets.{apart_mem, within_mem, clash}
 use Rattle.c_model.proofs.DecidedGrammar.{entry}
 use Rattle.c_model.proofs.ParserDecided.{quiet, checked}
 use Rattle.c_model.proofs.TokenKinds.{is_it, decide}
-use Rattle.c_model.proofs.RegainTable.{IsRegained, IsDerived, begins_with}
+use Rattle.c_model.proofs.RegainTable.{IsRegained, begins_with}
 
 expressions_are_no_types : apart tables (firsts r.Expr) (firsts r.Squals) ≡ true
 unfolding apart mem firsts

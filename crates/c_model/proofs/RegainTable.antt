@@ -1,10 +1,10 @@
 -- Where each production's tests lose nothing, the table's lose nothing.
-use Rattle.std.proofs.Common.{◌≡◌, ℕ, Bool, true, false, not, ◌&&◌, ◌||◌, List, [], ◌∷◌, ◌++◌, refl, subst, sym}
-use mathlib.Core.Logic.{◌⊎◌, inl, inr}
+use Rattle.std.proofs.Common.{◌≡◌, ℕ, Bool, true, false, not, ◌&&◌, ◌||◌, List, [], ◌++◌, refl, subst, sym}
+use mathlib.Core.Logic.{inl, inr}
 use Rattle.c_model.specs.declared.grammar.Rule.{Rule}
 use Rattle.c_model.specs.declared.grammar.Terminal.{Terminal}
 use Rattle.c_model.specs.declared.grammar.Tree.{Tree}
-use Rattle.c_model.specs.GrammarForm.{Form, word, rule, empty, ◌then◌, ◌or◌, maybe, many, when, loop, mem}
+use Rattle.c_model.specs.GrammarForm.{Form, rule, ◌then◌, ◌or◌, many, when, loop, mem}
 use Rattle.c_model.specs.NameScopes.{Scopes}
 use Rattle.c_model.specs.Derivation.{Derives, Begins}
 use Rattle.c_model.specs.DecidedTable.{within, first, nullable, leads}
@@ -13,8 +13,8 @@ use Rattle.c_model.specs.OpenTable.{opened, open_table}
 use Rattle.c_model.specs.ParserTable.{table}
 use Rattle.c_model.specs.ParserSets.{tables, firsts, follows, hollow}
 use Rattle.c_model.specs.ParserTests.{parsed}
-use Rattle.c_model.proofs.KindSets.{and_left, and_right, or_cases, not_true, within_mem, clash, mem_left}
-use Rattle.c_model.proofs.DecidedGrammar.{Moves, step, entry, lead, ahead_keeps}
+use Rattle.c_model.proofs.KindSets.{and_left, and_right, within_mem, clash, mem_left}
+use Rattle.c_model.proofs.DecidedGrammar.{step, entry, lead, ahead_keeps}
 use Rattle.c_model.proofs.ParserDecided.{quiet, checked}
 use Rattle.c_model.proofs.ClearBrackets.{clear, is_balanced, stays_clear}
 use Rattle.c_model.proofs.OpenFlows.{flows, flow}
@@ -22,9 +22,6 @@ use Rattle.c_model.proofs.OpenFlows.{flows, flow}
 -- no bracket is held open where b says so
 abbrev pub Clear : Bool → Scopes → Type 0
 Clear b s = b ≡ true → s.brackets ≡ []
-
-
-
 
 -- the form derives these tokens, as some trees
 pub record IsDerived (f : Form) (s : Scopes) (ts : List Terminal) (new : Scopes) (rest : List Terminal) : Type 0 where

@@ -1,5 +1,5 @@
 -- The parser's table and the table that is open in its tests derive and begin the same.
-use Rattle.std.proofs.Common.{◌≡◌, ℕ, Bool, true, false, List, [], ◌∷◌, ◌++◌, refl, subst, ◌∙◌}
+use Rattle.std.proofs.Common.{◌≡◌, ℕ, Bool, true, List, [], ◌∷◌, refl, subst, ◌∙◌}
 use Rattle.c_model.specs.declared.grammar.Rule.{Rule}
 use Rattle.c_model.specs.declared.grammar.Rule.TheVariants as r
 use Rattle.c_model.specs.declared.grammar.Act.TheVariants as act
@@ -19,19 +19,18 @@ use Rattle.c_model.specs.OpenTable.{opened, open_table, enumerators}
 use Rattle.c_model.specs.ParserTable.{table}
 use Rattle.c_model.specs.ParserSets.{tables, follows}
 use Rattle.c_model.specs.ParserTests.{parsed}
-use Rattle.c_model.specs.Untested.{untested}
 use Rattle.c_model.proofs.Forget.{same_table}
 use Rattle.c_model.proofs.Loosen.{loosen, loosen_begun}
 use Rattle.c_model.proofs.OpenFlows.{flows}
-use Rattle.c_model.proofs.ClearBrackets.{clear, is_balanced}
-use Rattle.c_model.proofs.RegainLoops.{then_begun}
-use Rattle.c_model.proofs.RegainTable.{IsRegained, IsDerived, regain, regain_begun}
+use Rattle.c_model.proofs.ClearBrackets.{is_balanced}
+use Rattle.c_model.proofs.RegainTable.{IsRegained, regain, regain_begun}
 use Rattle.c_model.proofs.RegainParameters.{parameters}
 use Rattle.c_model.proofs.RegainPrimary.{primary}
 use Rattle.c_model.proofs.RegainAbstract.{abstract_declarator}
 use Rattle.c_model.proofs.RegainCommas.{braces, enumeration}
 use Rattle.c_model.proofs.RegainDeclaration.{declaration}
 use Rattle.c_model.proofs.RegainBlock.{block_items}
+use Rattle.c_model.proofs.RegainFunction.{external}
 use Rattle.c_model.proofs.RegainParameter.{parameter}
 use Rattle.c_model.proofs.RegainCast.{cast_expression, unary_expression}
 
@@ -47,6 +46,7 @@ each r.Primary = primary
 each r.Enum = enumeration
 each r.Declaration = declaration
 each r.Block = block_items
+each r.External = external
 each r.Param = parameter
 each r.Cast = cast_expression
 each r.Unary = unary_expression
@@ -132,6 +132,7 @@ loose r.Primary = loosened r.Primary refl
 loose r.Enum = record { derived = enum_back; begun = enum_front }
 loose r.Declaration = loosened r.Declaration refl
 loose r.Block = loosened r.Block refl
+loose r.External = loosened r.External refl
 loose r.Param = loosened r.Param refl
 loose r.Cast = loosened r.Cast refl
 loose r.Unary = loosened r.Unary refl

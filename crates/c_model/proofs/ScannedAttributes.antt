@@ -1,26 +1,25 @@
 -- What the parser scans over attributes is what they derive.
-use Rattle.std.proofs.Common.{◌≡◌, ℕ, suc, ◌+◌, ◌-◌, Bool, true, false, not, ◌&&◌, ◌||◌, List, [], ◌∷◌, ◌++◌, length, refl, sym, ap, subst, ◌∙◌, arith}
+use Rattle.std.proofs.Common.{◌≡◌, ℕ, suc, ◌+◌, ◌-◌, true, false, List, [], ◌∷◌, length, refl, sym, ap, subst, ◌∙◌, arith}
 use Rattle.std.proofs.lemmas.Bool.{eqb-true}
-use Rattle.std.specs.Prelude.{◌==◌, if◌then◌else◌}
-use mathlib.Core.Logic.{◌⊎◌, inl, inr}
+use Rattle.std.specs.Prelude.{◌==◌}
 use Rattle.c_model.specs.declared.grammar.Rule.TheVariants as r
 use Rattle.c_model.specs.declared.grammar.Act.TheVariants as act
 use Rattle.c_model.specs.declared.grammar.Terminal.{Terminal}
 use Rattle.c_model.specs.declared.grammar.Tree.{Tree}
-use Rattle.c_model.specs.GrammarForm.{Form, word, rule, many, ◌then◌, ◌or◌, mem}
+use Rattle.c_model.specs.GrammarForm.{Form, word, rule, many, ◌or◌, mem}
 use Rattle.c_model.specs.Grammar.{others}
 use Rattle.c_model.specs.Terminals as k
-use Rattle.c_model.specs.NameScopes.{Scopes, kind, after, bracket_kind, is_closing, is_opening, is_given, own_kind, closes, is_type, without_last}
-use Rattle.c_model.specs.Derivation.{Derives, Begins}
+use Rattle.c_model.specs.NameScopes.{Scopes, kind, is_closing, is_opening, without_last}
+use Rattle.c_model.specs.Derivation.{Derives}
 use Rattle.c_model.specs.DecidedTable.{apart}
 use Rattle.c_model.specs.ParserSets.{tables}
 use Rattle.c_model.specs.ParserTable.{table}
-use Rattle.c_model.specs.ParserTests.{parsed, past_attributes, sees_attribute, sees}
-use Rattle.c_model.proofs.KindSets.{clash, or_cases, within_mem}
+use Rattle.c_model.specs.ParserTests.{parsed, past_attributes, sees_attribute}
+use Rattle.c_model.proofs.KindSets.{within_mem}
 use Rattle.c_model.proofs.ClearBrackets.{closing, at_closing}
 use Rattle.c_model.specs.DecidedTable.{within}
 use Rattle.c_model.proofs.TokenKinds.{is_it, decide}
-use Rattle.c_model.proofs.BracketKinds.{opening_kind, not_both, closing_kind, IsHeld, held_kind, no_opening, no_closing, brackets}
+use Rattle.c_model.proofs.BracketKinds.{opening_kind, not_both, IsHeld, held_kind, no_opening, no_closing, brackets}
 
 -- a token in a scan over attributes of which n + 1 brackets are open
 positive : (n : ℕ) → (suc n == 0) ≡ false
@@ -85,7 +84,7 @@ one_more n m = omega arith
 let_go : (n : ℕ) (s : Scopes) (t : Terminal) (ts : List Terminal) → IsHeld s t → past_attributes (suc (n + length s.brackets)) (t ∷ ts) ≡ past_attributes (suc (n + length (without_last s.brackets))) ts
 let_go n s t ts h =
     let p : past_attributes (suc (n + length (h.last ∷ h.others))) (t ∷ ts) ≡ past_attributes (suc (n + length h.others)) ts =
-        ap (λ m. past_attributes m (t ∷ ts)) (sym (one_more n (length h.others))) ∙ over_closing (suc (n + length h.others)) t ts h.closes in
+    ap (λ m. past_attributes m (t ∷ ts)) (sym (one_more n (length h.others))) ∙ over_closing (suc (n + length h.others)) t ts h.closes in
     subst (λ z. past_attributes (suc (n + length z)) (t ∷ ts) ≡ past_attributes (suc (n + length (without_last z))) ts) (sym h.held) p
 
 over_one : (n : ℕ) {s new : Scopes} {ts rest : List Terminal} {xs : List Tree} → Derives parsed balanced s ts xs new rest → IsOver n s new ts rest

@@ -1,35 +1,25 @@
 -- The scan for the name of a parameter's declarator finds it where one is derived, and none where an abstract one is.
-use Rattle.std.proofs.Common.{Option, Some, None, arith, ◌-◌, ◌≡◌, ℕ, suc, ◌+◌, length, Bool, true, false, not, ◌&&◌, ◌||◌, List, [], ◌∷◌, ◌++◌, refl, sym, ap, subst, ◌∙◌}
+use Rattle.std.proofs.Common.{arith, ◌-◌, ◌≡◌, ℕ, suc, ◌+◌, length, Bool, true, false, ◌&&◌, List, [], ◌∷◌, refl, sym, ap, subst, ◌∙◌}
 use Rattle.std.proofs.lemmas.Bool.{eqb-true}
-use Rattle.std.specs.Prelude.{◌==◌, if◌then◌else◌}
-use mathlib.Core.Logic.{◌⊎◌, inl, inr}
-use Rattle.c_model.specs.declared.grammar.Rule.{Rule}
+use Rattle.std.specs.Prelude.{◌==◌}
 use Rattle.c_model.specs.declared.grammar.Rule.TheVariants as r
-use Rattle.c_model.specs.declared.grammar.Act.TheVariants as act
 use Rattle.c_model.specs.declared.grammar.Test.TheVariants as test
 use Rattle.c_model.specs.declared.grammar.Terminal.{Terminal}
-use Rattle.c_model.specs.declared.grammar.Entry.{Entry}
 use Rattle.c_model.specs.declared.grammar.Before.{Before}
 use Rattle.c_model.specs.declared.grammar.Before.TheVariants.{AtStart, BehindStar, BehindQualifier, Inside}
 use Rattle.c_model.specs.declared.grammar.Tree.{Tree}
-use Rattle.c_model.specs.declared.grammar.Tree.TheVariants as tree
-use Rattle.c_model.specs.GrammarForm.{Form, word, rule, when, maybe, many, loop, ◌then◌, ◌or◌, mem}
-use Rattle.c_model.specs.Grammar.{grammar, token}
+use Rattle.c_model.specs.GrammarForm.{rule, many, loop, mem}
 use Rattle.c_model.specs.Terminals as k
-use Rattle.c_model.specs.NameScopes.{Scopes, kind, after, is_type, is_opening, is_closing, bracket_kind, without_last}
-use Rattle.c_model.specs.Derivation.{Derives, Begins}
-use Rattle.c_model.specs.DecidedTable.{nullable, first, within, apart}
-use Rattle.c_model.specs.ParserWalk.{ahead}
-use Rattle.c_model.specs.OpenTable.{open_table}
+use Rattle.c_model.specs.NameScopes.{Scopes, kind, is_opening, is_closing, without_last}
+use Rattle.c_model.specs.Derivation.{Derives}
+use Rattle.c_model.specs.DecidedTable.{first}
 use Rattle.c_model.specs.ParserTable.{table}
-use Rattle.c_model.specs.ParserSets.{tables, firsts, follows, hollow}
-use Rattle.c_model.specs.ParserTests.{parsed, passes, sees, sees_attribute, names_declarator, declarator_step, inside_step, outside_step, is_name, declares, is_qualifier, goes_on}
-use Rattle.c_model.proofs.KindSets.{apart_mem, within_mem, clash, or_cases, or_right}
-use Rattle.c_model.proofs.TokenKinds.{is_it, absent, raw, decide, own}
-use Rattle.c_model.proofs.BracketKinds.{opening_kind, not_both, closing_kind, IsHeld, held_kind, no_opening, no_closing, brackets}
-use Rattle.c_model.proofs.ScannedAttributes.{over_attribute, over_attributes, balanced, apart_others, clear_there, is_bracket, is_closer, opens_as, closes_as}
+use Rattle.c_model.specs.ParserSets.{firsts}
+use Rattle.c_model.specs.ParserTests.{parsed, sees_attribute, names_declarator, declarator_step, is_name, declares, is_qualifier}
+use Rattle.c_model.proofs.TokenKinds.{absent, raw, decide}
+use Rattle.c_model.proofs.BracketKinds.{opening_kind, not_both, IsHeld, held_kind, no_opening, no_closing}
+use Rattle.c_model.proofs.ScannedAttributes.{over_attribute, balanced, apart_others, clear_there, is_bracket, is_closer, opens_as, closes_as}
 use Rattle.c_model.specs.Grammar.{others}
-use Rattle.c_model.proofs.RegainTable.{begins_with, starts}
 
 -- the place is in an attribute
 unfoldable pub is_inside : Before → Bool
@@ -121,7 +111,7 @@ one_less n m = omega arith
 let_go : (first : Scopes) (n : ℕ) (s : Scopes) (t : Terminal) (ts : List Terminal) → IsHeld s t → names_declarator (Inside (suc (n + length s.brackets))) first (t ∷ ts) ≡ names_declarator (Inside (suc (n + length (without_last s.brackets)))) first ts
 let_go first n s t ts h =
     let p : names_declarator (Inside (suc (n + length (h.last ∷ h.others)))) first (t ∷ ts) ≡ names_declarator (Inside (suc (n + length h.others))) first ts =
-        ap (λ m. names_declarator (Inside m) first (t ∷ ts)) (two_less n (length h.others)) ∙ inside_closing (suc (suc (n + length h.others))) (suc (n + length h.others)) first t ts h.closes (not_one (n + length h.others)) (one_less n (length h.others)) in
+    ap (λ m. names_declarator (Inside m) first (t ∷ ts)) (two_less n (length h.others)) ∙ inside_closing (suc (suc (n + length h.others))) (suc (n + length h.others)) first t ts h.closes (not_one (n + length h.others)) (one_less n (length h.others)) in
     subst (λ z. names_declarator (Inside (suc (n + length z))) first (t ∷ ts) ≡ names_declarator (Inside (suc (n + length (without_last z)))) first ts) (sym h.held) p
 
 inside_one : (first : Scopes) (n : ℕ) {s new : Scopes} {ts rest : List Terminal} {xs : List Tree} → Derives parsed balanced s ts xs new rest → names_declarator (Inside (suc (n + length s.brackets))) first ts ≡ names_declarator (Inside (suc (n + length new.brackets))) first rest

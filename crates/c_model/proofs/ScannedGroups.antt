@@ -1,30 +1,15 @@
 -- The scans over specifiers and declarators pass over what stands in brackets as the scan for the closing bracket does.
-use Rattle.std.proofs.Common.{zero, arith, ◌-◌, ◌≡◌, ℕ, suc, ◌+◌, length, Bool, true, false, not, ◌&&◌, ◌||◌, List, [], ◌∷◌, ◌++◌, refl, sym, ap, subst, ◌∙◌}
+use Rattle.std.proofs.Common.{zero, arith, ◌-◌, ◌≡◌, ℕ, suc, ◌+◌, length, Bool, true, false, ◌||◌, List, [], ◌∷◌, refl, sym, ap, subst, ◌∙◌}
 use Rattle.std.proofs.lemmas.Bool.{eqb-true}
-use Rattle.std.specs.Prelude.{◌==◌, if◌then◌else◌}
-use mathlib.Core.Logic.{◌⊎◌, inl, inr}
-use Rattle.c_model.specs.declared.grammar.Rule.{Rule}
-use Rattle.c_model.specs.declared.grammar.Rule.TheVariants as r
-use Rattle.c_model.specs.declared.grammar.Act.TheVariants as act
-use Rattle.c_model.specs.declared.grammar.Test.TheVariants as test
+use Rattle.std.specs.Prelude.{◌==◌}
 use Rattle.c_model.specs.declared.grammar.Terminal.{Terminal}
-use Rattle.c_model.specs.declared.grammar.Within.{Within}
-use Rattle.c_model.specs.declared.grammar.Within.TheVariants.{Between, BehindHead, BehindTag, BehindTypeof, Attribute, Group}
+use Rattle.c_model.specs.declared.grammar.Within.TheVariants.{Between, BehindHead, Attribute, Group}
 use Rattle.c_model.specs.declared.grammar.Tree.{Tree}
-use Rattle.c_model.specs.declared.grammar.Tree.TheVariants as tree
-use Rattle.c_model.specs.GrammarForm.{Form, word, rule, empty, when, maybe, many, loop, ◌then◌, ◌or◌, mem}
-use Rattle.c_model.specs.Grammar.{grammar, token}
-use Rattle.c_model.specs.Terminals as k
-use Rattle.c_model.specs.NameScopes.{Scopes, kind, after, is_type, is_opening, is_closing, bracket_kind}
-use Rattle.c_model.specs.Derivation.{Derives, Begins}
-use Rattle.c_model.specs.DecidedTable.{nullable, first, within, apart}
-use Rattle.c_model.specs.ParserWalk.{ahead}
-use Rattle.c_model.specs.OpenTable.{open_table}
-use Rattle.c_model.specs.ParserTable.{table}
-use Rattle.c_model.specs.ParserSets.{tables, firsts, follows, hollow}
-use Rattle.c_model.specs.ParserTests.{parsed, passes, sees, past_brackets, past_specifiers, specifier_step, between_step, head_step, behind_word, behind_specifier, behind_braces, bracket_step, is_type_colon, is_type_word, type_words, has_enumerators, sees_enumerators, past_declarator, ends_declarator, is_in_declarator, is_qualifier}
-use Rattle.c_model.proofs.KindSets.{apart_mem, within_mem, clash, or_cases, or_right}
-use Rattle.c_model.proofs.TokenKinds.{is_it, absent, raw, decide}
+use Rattle.c_model.specs.GrammarForm.{Form, mem}
+use Rattle.c_model.specs.NameScopes.{Scopes, kind, is_opening, is_closing}
+use Rattle.c_model.specs.Derivation.{Derives}
+use Rattle.c_model.specs.ParserTests.{parsed, past_brackets, past_specifiers, specifier_step, past_declarator}
+use Rattle.c_model.proofs.TokenKinds.{decide}
 use Rattle.c_model.proofs.BracketKinds.{not_both, closing_kind}
 use Rattle.c_model.proofs.ClearBrackets.{closing, at_closing}
 use Rattle.c_model.proofs.BalancedForms.{even, level, passes_over, last_closing}

@@ -1,8 +1,7 @@
 -- The scan over specifiers passes over those that are derived, and ends before a declarator or `;`.
-use Rattle.std.proofs.Common.{zero, arith, ◌-◌, ◌≡◌, ℕ, suc, ◌+◌, length, Bool, true, false, not, ◌&&◌, ◌||◌, List, [], ◌∷◌, ◌++◌, refl, sym, ap, subst, ◌∙◌}
+use Rattle.std.proofs.Common.{◌≡◌, ℕ, Bool, true, false, not, ◌&&◌, ◌||◌, List, [], ◌∷◌, refl, sym, ap, subst, ◌∙◌}
 use Rattle.std.proofs.lemmas.Bool.{eqb-true}
 use Rattle.std.specs.Prelude.{◌==◌, if◌then◌else◌}
-use mathlib.Core.Logic.{◌⊎◌, inl, inr}
 use Rattle.c_model.specs.declared.grammar.Rule.{Rule}
 use Rattle.c_model.specs.declared.grammar.Rule.TheVariants as r
 use Rattle.c_model.specs.declared.grammar.Act.TheVariants as act
@@ -11,29 +10,25 @@ use Rattle.c_model.specs.declared.grammar.Terminal.{Terminal}
 use Rattle.c_model.specs.declared.grammar.Within.{Within}
 use Rattle.c_model.specs.declared.grammar.Within.TheVariants.{Between, BehindHead, BehindTag, BehindTypeof, Attribute, Group}
 use Rattle.c_model.specs.declared.grammar.Tree.{Tree}
-use Rattle.c_model.specs.declared.grammar.Tree.TheVariants as tree
-use Rattle.c_model.specs.GrammarForm.{Form, word, rule, empty, when, maybe, many, loop, ◌then◌, ◌or◌, mem}
-use Rattle.c_model.specs.Grammar.{grammar, token}
+use Rattle.c_model.specs.GrammarForm.{Form, word, rule, when, maybe, many, loop, ◌then◌, ◌or◌, mem}
+use Rattle.c_model.specs.Grammar.{token}
 use Rattle.c_model.specs.Terminals as k
 use Rattle.c_model.specs.NameScopes.{Scopes, kind, after, is_type, is_closing, is_given, closes, bracket_kind}
-use Rattle.c_model.specs.Derivation.{Derives, Begins}
-use Rattle.c_model.specs.DecidedTable.{nullable, first, within, apart}
+use Rattle.c_model.specs.Derivation.{Derives}
+use Rattle.c_model.specs.DecidedTable.{within, apart}
 use Rattle.c_model.specs.ParserWalk.{ahead}
-use Rattle.c_model.specs.OpenTable.{open_table}
 use Rattle.c_model.specs.ParserTable.{table}
-use Rattle.c_model.specs.ParserSets.{tables, firsts, follows, hollow}
-use Rattle.c_model.specs.ParserTests.{parsed, passes, sees, past_brackets, past_specifiers, specifier_step, between_step, head_step, behind_word, behind_specifier, behind_braces, bracket_step, is_type_colon, is_type_word, type_words, has_enumerators, sees_enumerators, past_declarator, ends_declarator, is_in_declarator, is_qualifier}
-use Rattle.c_model.proofs.KindSets.{one_mem, apart_mem, within_mem, clash, or_cases, or_right}
-use Rattle.c_model.proofs.TokenKinds.{Plain, is_it, absent, raw, decide, own}
-use Rattle.c_model.proofs.BracketKinds.{not_both, closing_kind}
-use Rattle.c_model.proofs.ClearBrackets.{closing, at_closing, clear, holds, is_balanced, parsed_clear}
-use Rattle.c_model.proofs.BalancedForms.{even, level, evens, levels, fits, is_some, pred}
-use Rattle.c_model.proofs.ScannedAttributes.{over_attributes, is_bracket, IsPassed}
-use Rattle.c_model.proofs.ScannedAttributes.{over_attribute as attribute_over}
-use Rattle.c_model.proofs.RegainTable.{begins_with, starts}
+use Rattle.c_model.specs.ParserSets.{tables, firsts, hollow}
+use Rattle.c_model.specs.ParserTests.{parsed, sees, past_brackets, past_specifiers, specifier_step, behind_word, is_type_word, type_words, has_enumerators}
+use Rattle.c_model.proofs.KindSets.{one_mem, apart_mem, within_mem, clash, or_right}
+use Rattle.c_model.proofs.TokenKinds.{Plain, is_it, absent, raw, decide, unseen, unnamed}
+use Rattle.c_model.proofs.ClearBrackets.{closing, clear, holds, is_balanced, parsed_clear}
+use Rattle.c_model.proofs.BalancedForms.{even, level, fits, is_some, pred}
+use Rattle.c_model.proofs.ScannedAttributes.{is_bracket}
+use Rattle.c_model.proofs.ScannedAttributes.{over_attribute as attribute_over, over_many}
+use Rattle.c_model.proofs.RegainTable.{begins_with}
 use Rattle.c_model.proofs.ScannedGroups.{over_group, over_attribute, grouped, or_false}
 use Rattle.c_model.proofs.KeptScopes.{same_entries, declares}
-use Rattle.c_model.proofs.BehindAttributes.{missing}
 
 -- the scopes have the names of those at the start of the scan
 pub record IsSame (base s : Scopes) : Type 0 where
@@ -105,7 +100,7 @@ plain_place F typed n a b c m =
 abbrev storages : List ℕ
 storages = k.Extern ∷ k.Static ∷ k.Auto ∷ k.Register ∷ k.Constexpr ∷ []
 
-abbrev qualifiers : List ℕ
+abbrev pub qualifiers : List ℕ
 qualifiers = k.Const ∷ k.Restrict ∷ k.Owner ∷ k.View ∷ k.Opt ∷ []
 
 word_over : (F : List ℕ) → IsWords F → apart tables F heads ≡ true → apart tables F typeofs ≡ true → apart tables F type_words ≡ true → (fixed : Bool) (base s new : Scopes) (t : Terminal) (ts : List Terminal) → new.reading.typed ≡ s.reading.typed → mem (kind s t) F ≡ true → IsPast base s new fixed (t ∷ ts) ts
@@ -123,7 +118,7 @@ storage_words : IsWords storages
 unfolding mem within firsts
 storage_words = record { plain = (refl, refl, refl, refl, refl); brace = refl; colon = refl; specifiers = refl }
 
-qualifier_words : IsWords qualifiers
+pub qualifier_words : IsWords qualifiers
 unfolding mem within firsts
 qualifier_words = record { plain = (refl, refl, refl, refl, refl); brace = refl; colon = refl; specifiers = refl }
 
@@ -288,10 +283,10 @@ tag_name s t e = by (t.kind == 111) (is_type s.entries t.name) s.reading.typed (
     by true x y j n h = refl
     by false x y j n h = absurd (clash _ h (n refl))
 
-as_closing : (j : ℕ) → within tables (j ∷ []) closing ≡ true → (s : Scopes) (t : Terminal) → mem (kind s t) (j ∷ []) ≡ true → mem (kind s t) closing ≡ true
+pub as_closing : (j : ℕ) → within tables (j ∷ []) closing ≡ true → (s : Scopes) (t : Terminal) → mem (kind s t) (j ∷ []) ≡ true → mem (kind s t) closing ≡ true
 as_closing j w s t e = within_mem tables (kind s t) (j ∷ []) closing w e
 
-close_bracket : within tables (69 ∷ []) closing ≡ true
+pub close_bracket : within tables (69 ∷ []) closing ≡ true
 unfolding within mem
 close_bracket = refl
 
@@ -299,7 +294,7 @@ close_brace : within tables (71 ∷ []) closing ≡ true
 unfolding within mem
 close_brace = refl
 
-close_parenthesis : within tables (67 ∷ []) closing ≡ true
+pub close_parenthesis : within tables (67 ∷ []) closing ≡ true
 unfolding within mem
 close_parenthesis = refl
 
@@ -320,11 +315,11 @@ unfolding table
 attribute_grouped {s = s} b (Derives.a_rule (Derives.both (Derives.a_word {t = t} e1) (Derives.both {mid = m1} e2 (Derives.both {mid = m2} d (Derives.both (Derives.a_word e3) (Derives.a_word {t = w} e4) p1) p2) p3) p4)) =
     (is_bracket s t e1, grouped in_attribute s m2 w attribute_even attribute_level b (Derives.both e2 (Derives.both d (Derives.a_word e3) refl) refl) (as_closing 69 close_bracket m2 w e4))
 
-empty_attribute : {s new : Scopes} {rest : List Terminal} {xs : List Tree} → Derives parsed (rule r.Attr) s [] xs new rest → ⊥
+pub empty_attribute : {s new : Scopes} {rest : List Terminal} {xs : List Tree} → Derives parsed (rule r.Attr) s [] xs new rest → ⊥
 unfolding hollow firsts mem ahead
 empty_attribute d = clash _ (begins_with refl d) refl
 
-over_attributes_one : {s new : Scopes} {ts rest : List Terminal} {xs : List Tree} → s.brackets ≡ [] → Derives parsed (rule r.Attr) s ts xs new rest → new.brackets ≡ []
+pub over_attributes_one : {s new : Scopes} {ts rest : List Terminal} {xs : List Tree} → s.brackets ≡ [] → Derives parsed (rule r.Attr) s ts xs new rest → new.brackets ≡ []
 over_attributes_one b d = ap (λ z. z.brackets) (attribute_over b d).state ∙ b
 
 heads_over : (fixed : Bool) (base : Scopes) {s mid : Scopes} {ts later : List Terminal} {xs : List Tree} → s.brackets ≡ [] → Derives parsed (many (rule r.Attr)) s ts xs mid later → past_specifiers fixed BehindHead base ts ≡ past_specifiers fixed BehindHead base later
@@ -335,5 +330,276 @@ heads_over fixed base {s = s} {ts = t ∷ us} b (Derives.turn d e _) =
     let p = over_attributes_one b d in
     at_attribute fixed base t us g.0 ∙ (over_attribute us 0 fixed base ∙ (ap (λ z. past_specifiers fixed BehindHead base z) g.1 ∙ heads_over fixed base p e))
 
-pub probe : (b : Bool) → b ≡ b
-probe b = refl
+-- members, enumerators and the operand of `typeof`
+abbrev members : Form
+members = rule r.Member then many (rule r.Member)
+
+abbrev enumerators : Form
+enumerators = rule r.Enumr then loop test.EnumeratorAhead (token k.Comma then rule r.Enumr) then maybe (token k.Comma)
+
+abbrev operand : Form
+operand = rule r.Expr or rule r.Typename
+
+members_even : even members 0 ≡ true
+unfolding even level
+members_even = refl
+
+members_level : level members 0 ≡ 0
+unfolding level
+members_level = refl
+
+enumerators_even : even enumerators 0 ≡ true
+unfolding even level fits is_some pred holds within apart mem
+enumerators_even = refl
+
+enumerators_level : level enumerators 0 ≡ 0
+unfolding level
+enumerators_level = refl
+
+operand_even : even operand 0 ≡ true
+unfolding even level
+operand_even = refl
+
+operand_level : level operand 0 ≡ 0
+unfolding level
+operand_level = refl
+
+kind_is : (j : ℕ) → Plain (j ∷ []) → (s : Scopes) (t : Terminal) → mem (kind s t) (j ∷ []) ≡ true → (t.kind == j) ≡ true
+kind_is j p s t e = is_it j p s t e
+
+head_word : (j : ℕ) → Plain (j ∷ []) → mem 70 (j ∷ []) ≡ false → mem 72 (j ∷ []) ≡ false → within tables (j ∷ []) (firsts r.Specs) ≡ true → IsWords (j ∷ [])
+head_word j p b c w = record { plain = p; brace = b; colon = c; specifiers = w }
+
+struct_word : IsWords (k.Struct ∷ [])
+unfolding mem within firsts
+struct_word = record { plain = (refl, refl, refl, refl, refl); brace = refl; colon = refl; specifiers = refl }
+
+enum_word : IsWords (k.Enum ∷ [])
+unfolding mem within firsts
+enum_word = record { plain = (refl, refl, refl, refl, refl); brace = refl; colon = refl; specifiers = refl }
+
+struct_head : mem k.Struct heads ≡ true
+unfolding mem
+struct_head = refl
+
+enum_head : mem k.Enum heads ≡ true
+unfolding mem
+enum_head = refl
+
+brace_kind : (s : Scopes) (t : Terminal) → mem (kind s t) (70 ∷ []) ≡ true → (t.kind == 70) ≡ true
+unfolding mem
+brace_kind s t e = is_it 70 (refl, refl, refl, refl, refl) s t e
+
+colon_kind : (s : Scopes) (t : Terminal) → mem (kind s t) (72 ∷ []) ≡ true → (t.kind == 72) ≡ true
+unfolding mem
+colon_kind s t e = is_it 72 (refl, refl, refl, refl, refl) s t e
+
+parenthesis_kind : (s : Scopes) (t : Terminal) → mem (kind s t) (66 ∷ []) ≡ true → (t.kind == 66) ≡ true
+unfolding mem
+parenthesis_kind s t e = is_it 66 (refl, refl, refl, refl, refl) s t e
+
+-- braces
+group_over : (fixed : Bool) (base : Scopes) (us vs : List Terminal) → past_brackets 1 us ≡ vs → past_specifiers fixed (Group 1) base us ≡ past_specifiers fixed (Between true) base vs
+group_over fixed base us vs q = over_group us 0 fixed base ∙ ap (λ z. past_specifiers fixed (Between true) base z) q
+
+pub cleared : {s mid : Scopes} {ts later : List Terminal} {xs : List Tree} → s.brackets ≡ [] → Derives parsed (many (rule r.Attr)) s ts xs mid later → mid.brackets ≡ []
+cleared b a = ap (λ z. z.brackets) (over_many b a).state ∙ b
+
+attributes_same : {base s m : Scopes} (t : Terminal) {us later : List Terminal} {xs : List Tree} → IsSame base s → Derives parsed (many (rule r.Attr)) (after act.Pass s t) us xs m later → m.entries ≡ base.entries
+attributes_same t b a = ap (λ z. z.entries) (over_many b.clear a).state ∙ b.entries
+
+or_left_false : (a b : Bool) → (a || b) ≡ false → a ≡ false
+or_left_false true b h = h
+or_left_false false b h = refl
+
+no_enumerators : (s : Scopes) (t : Terminal) (ts : List Terminal) → (t.kind == 111) ≡ true → has_enumerators s (t ∷ ts) ≡ false → sees 70 ts ≡ false
+no_enumerators s t [] n h = refl
+no_enumerators s t (u ∷ us) n h = or_left_false (u.kind == 70) _ (rw n at h)
+
+struct_over : (fixed : Bool) (base : Scopes) {s new : Scopes} {ts rest : List Terminal} {xs : List Tree} → IsSame base s → Derives parsed (rule r.Struct) s ts xs new rest → IsPast base s new fixed ts rest
+unfolding table
+struct_over fixed base {s = s} b (Derives.a_rule (Derives.both (Derives.a_word {t = t} {ts = us} e) (Derives.both {mid = m} (Derives.a_rule a) (Derives.left (Derives.both (Derives.a_word {t = g} {ts = vs} tag) (Derives.chosen c (Derives.a_rule (Derives.both (Derives.a_word {t = o} {ts = ws} eo) (Derives.both m1 (Derives.both {mid = m3} m2 (Derives.a_word {t = v} ec) p3) p4) p5))) p2)) p1) p0)) =
+    record {
+      last = fixed;
+      kept = λ h. h;
+      scanned =
+          to_head fixed s.reading.typed base s t us k.Struct struct_word struct_head e ∙ (heads_over fixed base b.clear a ∙ (at_tag fixed base g vs (tag_name m g tag) ∙ (tag_brace fixed base o ws (brace_kind (after act.TypeSpecifier m g) o eo) ∙
+          group_over fixed base ws _ (grouped members (after act.Pass (after act.TypeSpecifier m g) o) m3 v members_even members_level (cleared b.clear a) (Derives.both m1 m2 refl) (as_closing 71 close_brace m3 v ec)))));
+    }
+struct_over fixed base {s = s} b (Derives.a_rule (Derives.both (Derives.a_word {t = t} {ts = us} e) (Derives.both {mid = m} (Derives.a_rule a) (Derives.left (Derives.both (Derives.a_word {t = g} {ts = vs} tag) (Derives.other c Derives.nothing) p2)) p1) p0)) =
+    record { last = fixed; kept = λ h. h; scanned = to_head fixed s.reading.typed base s t us k.Struct struct_word struct_head e ∙ (heads_over fixed base b.clear a ∙ (at_tag fixed base g vs (tag_name m g tag) ∙ as_tag fixed base vs c)) }
+struct_over fixed base {s = s} b (Derives.a_rule (Derives.both (Derives.a_word {t = t} {ts = us} e) (Derives.both {mid = m} (Derives.a_rule a) (Derives.right (Derives.a_rule (Derives.both (Derives.a_word {t = o} {ts = ws} eo) (Derives.both m1 (Derives.both {mid = m3} m2 (Derives.a_word {t = v} ec) p3) p4) p5))) p1) p0)) =
+    record {
+      last = fixed;
+      kept = λ h. h;
+      scanned =
+          to_head fixed s.reading.typed base s t us k.Struct struct_word struct_head e ∙ (heads_over fixed base b.clear a ∙ (head_brace fixed base o ws (brace_kind m o eo) ∙
+          group_over fixed base ws _ (grouped members (after act.Pass m o) m3 v members_even members_level (cleared b.clear a) (Derives.both m1 m2 refl) (as_closing 71 close_brace m3 v ec))));
+    }
+
+typeof_over : (fixed : Bool) (base : Scopes) {s new : Scopes} {ts rest : List Terminal} {xs : List Tree} → IsSame base s → Derives parsed (rule r.Typeof) s ts xs new rest → IsPast base s new fixed ts rest
+unfolding table
+typeof_over fixed base {s = s} b (Derives.a_rule (Derives.both (Derives.a_word {t = t} {ts = us} e) (Derives.both (Derives.a_word {t = o} {ts = ws} eo) (Derives.both {mid = m3} d (Derives.a_word {t = v} ec) p2) p1) p0)) =
+    record {
+      last = fixed;
+      kept = λ h. h;
+      scanned =
+          to_typeof fixed s.reading.typed base s t us e ∙ (at_typeof fixed base o ws (parenthesis_kind (after act.Pass s t) o eo) ∙
+          group_over fixed base ws _ (grouped operand (after act.Pass (after act.Pass s t) o) m3 v operand_even operand_level b.clear d (as_closing 67 close_parenthesis m3 v ec)));
+    }
+
+joined : {base s mid new : Scopes} {fixed : Bool} {ts later rest : List Terminal} (a : IsPast base s mid fixed ts later) → IsPast base mid new a.last later rest → IsPast base s new fixed ts rest
+joined a b = record { last = b.last; kept = λ h. b.kept (a.kept h); scanned = a.scanned ∙ b.scanned }
+
+clear_rule : (n : Rule) → is_balanced n ≡ false → clear (rule n) true ≡ true
+unfolding clear
+clear_rule n h = ap not h
+
+-- a nonterminal that declares nothing leaves the scopes as they are
+same_after : (n : Rule) (base : Scopes) {s new : Scopes} {ts rest : List Terminal} {xs : List Tree} → declares n ≡ false → is_balanced n ≡ false → IsSame base s → Derives parsed (rule n) s ts xs new rest → IsSame base new
+same_after n base p q b d = record { entries = same_entries n p d ∙ b.entries; clear = parsed_clear d true (λ _. b.clear) (clear_rule n q) }
+
+abbrev element : Form
+element = rule r.Typespec or rule r.Qual
+
+same_element : (base : Scopes) {s new : Scopes} {ts rest : List Terminal} {xs : List Tree} → IsSame base s → Derives parsed element s ts xs new rest → IsSame base new
+unfolding declares is_balanced
+same_element base b (Derives.left d) = same_after r.Typespec base refl refl b d
+same_element base b (Derives.right d) = same_after r.Qual base refl refl b d
+
+-- an enumeration: its enumerators in braces, and what may stand before them
+abbrev braced : Form
+braced = token k.OpenBrace then rule r.Enumr then loop test.EnumeratorAhead (token k.Comma then rule r.Enumr) then maybe (token k.Comma) then word (k.CloseBrace ∷ []) act.TypeSpecifier
+
+abbrev based : Form
+based = maybe (token k.Colon then rule r.Squals)
+
+abbrev tag : Form
+tag = word (k.Name ∷ k.TypedefName ∷ []) act.TypeSpecifier
+
+abbrev enumerated : Form
+enumerated = when test.EnumeratorsAhead (maybe tag then based then braced) (tag then based)
+
+-- the place behind `enum` or its tag
+record IsPlace (fixed : Bool) (place : Within) (base : Scopes) : Type 0 where
+  pub brace : (t : Terminal) (ts : List Terminal) → (t.kind == 70) ≡ true → past_specifiers fixed place base (t ∷ ts) ≡ past_specifiers fixed (Group 1) base ts
+  pub colon : (t : Terminal) (ts : List Terminal) → (t.kind == 72) ≡ true → past_specifiers fixed place base (t ∷ ts) ≡ past_specifiers true (Between false) base ts
+
+head_place : (fixed : Bool) (base : Scopes) → IsPlace fixed BehindHead base
+head_place fixed base = record { brace = λ t ts h. head_brace fixed base t ts h; colon = λ t ts h. head_colon fixed base t ts h }
+
+tag_place : (fixed : Bool) (base : Scopes) → IsPlace fixed BehindTag base
+tag_place fixed base = record { brace = λ t ts h. tag_brace fixed base t ts h; colon = λ t ts h. tag_colon fixed base t ts h }
+
+record IsPastAt (fixed : Bool) (place : Within) (base new : Scopes) (ts rest : List Terminal) : Type 0 where
+  pub last : Bool
+  pub kept : fixed ≡ true → last ≡ true
+  pub scanned : past_specifiers fixed place base ts ≡ past_specifiers last (Between new.reading.typed) base rest
+
+braces_over : (fixed : Bool) (place : Within) (base : Scopes) {s new : Scopes} {ts rest : List Terminal} {xs : List Tree} → ((t : Terminal) (us : List Terminal) → (t.kind == 70) ≡ true → past_specifiers fixed place base (t ∷ us) ≡ past_specifiers fixed (Group 1) base us) → s.brackets ≡ [] → Derives parsed braced s ts xs new rest → past_specifiers fixed place base ts ≡ past_specifiers fixed (Between new.reading.typed) base rest
+braces_over fixed place base {s = s} arrive c (Derives.both (Derives.a_word {t = o} {ts = ws} eo) (Derives.both en (Derives.both l (Derives.both {mid = m} z (Derives.a_word {t = v} ec) _) _) _) _) =
+    arrive o ws (brace_kind s o eo) ∙ group_over fixed base ws _ (grouped enumerators (after act.Pass s o) m v enumerators_even enumerators_level c (Derives.both en (Derives.both l z refl) refl) (as_closing 71 close_brace m v ec))
+
+mutual
+  unfolding table declares is_balanced
+
+  pub type_over : (fixed : Bool) (base : Scopes) {s new : Scopes} {ts rest : List Terminal} {xs : List Tree} → IsSame base s → Derives parsed (rule r.Typespec) s ts xs new rest → IsPast base s new fixed ts rest
+  type_over fixed base {s = s} b (Derives.a_rule (Derives.left (Derives.a_word {t = t} {ts = us} e))) = over_type fixed base s t us e
+  type_over fixed base b (Derives.a_rule (Derives.right (Derives.left d))) = struct_over fixed base b d
+  type_over fixed base b (Derives.a_rule (Derives.right (Derives.right (Derives.left d)))) = enum_over fixed base b d
+  type_over fixed base {s = s} b (Derives.a_rule (Derives.right (Derives.right (Derives.right (Derives.left (Derives.a_word {t = t} {ts = us} e)))))) = over_name fixed base s t us b e
+  type_over fixed base b (Derives.a_rule (Derives.right (Derives.right (Derives.right (Derives.right d))))) = typeof_over fixed base b d
+
+  enum_over : (fixed : Bool) (base : Scopes) {s new : Scopes} {ts rest : List Terminal} {xs : List Tree} → IsSame base s → Derives parsed (rule r.Enum) s ts xs new rest → IsPast base s new fixed ts rest
+  enum_over fixed base {s = s} b (Derives.a_rule (Derives.both (Derives.a_word {t = t} {ts = us} e) (Derives.both (Derives.a_rule a) d _) _)) =
+      let w = choice_over fixed base (record { entries = attributes_same t b a; clear = cleared b.clear a }) d in
+      record { last = w.last; kept = w.kept; scanned = to_head fixed s.reading.typed base s t us k.Enum enum_word enum_head e ∙ (heads_over fixed base b.clear a ∙ w.scanned) }
+
+  choice_over : (fixed : Bool) (base : Scopes) {s new : Scopes} {ts rest : List Terminal} {xs : List Tree} → IsSame base s → Derives parsed enumerated s ts xs new rest → IsPastAt fixed BehindHead base new ts rest
+  choice_over fixed base b (Derives.chosen c (Derives.both Derives.skip d _)) = fixed_over fixed BehindHead base b (head_place fixed base) d
+  choice_over fixed base {s = s} b (Derives.chosen c (Derives.both (Derives.take (Derives.a_word {t = g} {ts = vs} e)) d _)) =
+      let w = fixed_over fixed BehindTag base (record { entries = b.entries; clear = b.clear }) (tag_place fixed base) d in
+      record { last = w.last; kept = w.kept; scanned = at_tag fixed base g vs (tag_name s g e) ∙ w.scanned }
+  choice_over fixed base {s = s} b (Derives.other c (Derives.both (Derives.a_word {t = g} {ts = vs} e) Derives.skip _)) =
+      record { last = fixed; kept = λ h. h; scanned = at_tag fixed base g vs (tag_name s g e) ∙ as_tag fixed base vs (no_enumerators s g vs (tag_name s g e) c) }
+  choice_over fixed base {s = s} b (Derives.other c (Derives.both (Derives.a_word {t = g} {ts = vs} e) (Derives.take (Derives.both (Derives.a_word {t = x} {ts = ys} colon) q _)) _)) =
+      let w = list_over true base (record { entries = b.entries; clear = b.clear }) q in
+      record { last = w.last; kept = λ h. w.kept refl; scanned = at_tag fixed base g vs (tag_name s g e) ∙ (tag_colon fixed base x ys (colon_kind (after act.TypeSpecifier s g) x colon) ∙ w.scanned) }
+
+  fixed_over : (fixed : Bool) (place : Within) (base : Scopes) {s new : Scopes} {ts rest : List Terminal} {xs : List Tree} → IsSame base s → IsPlace fixed place base → Derives parsed (based then braced) s ts xs new rest → IsPastAt fixed place base new ts rest
+  fixed_over fixed place base b p (Derives.both Derives.skip d _) = record { last = fixed; kept = λ h. h; scanned = braces_over fixed place base p.brace b.clear d }
+  fixed_over fixed place base {s = s} b p (Derives.both {mid = m} {later = later} (Derives.take (Derives.both (Derives.a_word {t = x} {ts = ys} colon) q _)) d _) =
+      let i : IsSame base (after act.Pass s x) = record { entries = b.entries; clear = b.clear } in
+      let w = list_over true base i q in
+      let j = same_after r.Squals base refl refl i q in
+      let z : past_specifiers w.last (Between m.reading.typed) base later ≡ past_specifiers true (Between m.reading.typed) base later = ap (λ f. past_specifiers f (Between m.reading.typed) base later) (w.kept refl) in
+      record { last = true; kept = λ h. refl; scanned = p.colon x ys (colon_kind s x colon) ∙ (w.scanned ∙ (z ∙ braces_over true (Between m.reading.typed) base (λ t us h. fixed_brace m.reading.typed base t us h) j.clear d)) }
+
+  list_over : (fixed : Bool) (base : Scopes) {s new : Scopes} {ts rest : List Terminal} {xs : List Tree} → IsSame base s → Derives parsed (rule r.Squals) s ts xs new rest → IsPast base s new fixed ts rest
+  list_over fixed base b (Derives.a_rule (Derives.both d l _)) = let w = element_over fixed base b d in joined w (elements_over w.last base (same_element base b d) l)
+
+  elements_over : (fixed : Bool) (base : Scopes) {s new : Scopes} {ts rest : List Terminal} {xs : List Tree} → IsSame base s → Derives parsed (loop test.TypeAhead element) s ts xs new rest → IsPast base s new fixed ts rest
+  elements_over fixed base b (Derives.done _) = record { last = fixed; kept = λ h. h; scanned = refl }
+  elements_over fixed base b (Derives.again _ d e _) = let w = element_over fixed base b d in joined w (elements_over w.last base (same_element base b d) e)
+
+  element_over : (fixed : Bool) (base : Scopes) {s new : Scopes} {ts rest : List Terminal} {xs : List Tree} → IsSame base s → Derives parsed element s ts xs new rest → IsPast base s new fixed ts rest
+  element_over fixed base b (Derives.left d) = type_over fixed base b d
+  element_over fixed base b (Derives.right d) = over_qualifier fixed base d
+
+spec_over : (fixed : Bool) (base : Scopes) {s new : Scopes} {ts rest : List Terminal} {xs : List Tree} → IsSame base s → Derives parsed (rule r.Spec) s ts xs new rest → IsPast base s new fixed ts rest
+unfolding table apart mem
+spec_over fixed base b (Derives.a_rule (Derives.left d)) = over_storage fixed base d
+spec_over fixed base b (Derives.a_rule (Derives.right (Derives.left d))) = type_over fixed base b d
+spec_over fixed base b (Derives.a_rule (Derives.right (Derives.right (Derives.left d)))) = over_qualifier fixed base d
+spec_over fixed base {s = s} b (Derives.a_rule (Derives.right (Derives.right (Derives.right (Derives.a_word {t = t} {ts = us} e))))) = word_over (k.Inline ∷ k.Noreturn ∷ []) function_words refl refl refl fixed base s (after act.Specifier s t) t us refl e
+
+specs_over : (fixed : Bool) (base : Scopes) {s new : Scopes} {ts rest : List Terminal} {xs : List Tree} → IsSame base s → Derives parsed (many (rule r.Spec)) s ts xs new rest → IsPast base s new fixed ts rest
+unfolding declares is_balanced
+specs_over fixed base b Derives.stop = record { last = fixed; kept = λ h. h; scanned = refl }
+specs_over fixed base b (Derives.turn d e _) = let w = spec_over fixed base b d in joined w (specs_over w.last base (same_after r.Spec base refl refl b d) e)
+
+pub specifiers_over : (fixed : Bool) (base : Scopes) {s new : Scopes} {ts rest : List Terminal} {xs : List Tree} → IsSame base s → Derives parsed (rule r.Specs) s ts xs new rest → IsPast base s new fixed ts rest
+unfolding table declares is_balanced
+specifiers_over fixed base b (Derives.a_rule (Derives.both d e _)) = let w = spec_over fixed base b d in joined w (specs_over w.last base (same_after r.Spec base refl refl b d) e)
+
+pub specifiers_same : (base : Scopes) {s new : Scopes} {ts rest : List Terminal} {xs : List Tree} → IsSame base s → Derives parsed (rule r.Specs) s ts xs new rest → IsSame base new
+unfolding declares is_balanced
+specifiers_same base b d = same_after r.Specs base refl refl b d
+
+-- before a declarator or `;` the scan ends
+abbrev pub behind : List ℕ
+behind = 65 ∷ 66 ∷ 74 ∷ 111 ∷ 113 ∷ []
+
+step_end : (fixed typed : Bool) (base : Scopes) (t : Terminal) (ts : List Terminal) → (t.kind == 111) ≡ false → (t.kind == 70) ≡ false → (t.kind == 72) ≡ false → mem t.kind (firsts r.Specs) ≡ false → past_specifiers fixed (Between typed) base (t ∷ ts) ≡ t ∷ ts
+unfolding past_specifiers specifier_step
+step_end fixed typed base t ts n b c h = rw (n, b, c, h, no_more fixed) refl
+
+name_end : (fixed typed : Bool) (base : Scopes) (t : Terminal) (ts : List Terminal) → (t.kind == 111) ≡ true → (typed || not (is_type base.entries t.name)) ≡ true → past_specifiers fixed (Between typed) base (t ∷ ts) ≡ t ∷ ts
+unfolding past_specifiers specifier_step
+name_end fixed typed base t ts n h = rw (n, h) refl
+
+of_end : (F : List ℕ) (b x y : Bool) (j : ℕ) → mem 112 F ≡ false → mem (if b then (if x then (if y then 113 else 112) else 111) else j) F ≡ true → b ≡ true → (y || not x) ≡ true
+of_end F true true true j n h q = refl
+of_end F true true false j n h q = absurd (clash _ h n)
+of_end F true false true j n h q = refl
+of_end F true false false j n h q = refl
+of_end F false x y j n h q = absurd (cc)
+
+end_is_no_specifier : apart tables behind (firsts r.Specs) ≡ true
+unfolding apart mem firsts
+end_is_no_specifier = refl
+
+no_specifier : (s : Scopes) (t : Terminal) → mem (kind s t) behind ≡ true → (t.kind == 111) ≡ false → mem t.kind (firsts r.Specs) ≡ false
+unfolding mem
+no_specifier s t e q = decide (mem t.kind (firsts r.Specs)) (λ m.
+    let a = decide (mem t.kind behind) (λ x. apart_mem tables t.kind behind (firsts r.Specs) end_is_no_specifier x m) in
+    clash _ (unnamed behind (t.kind == 111) (is_type s.entries t.name) s.reading.typed (bracket_kind s.brackets t.kind) q e) (unseen behind s.brackets t.kind a refl refl))
+
+pub specifiers_end : (fixed : Bool) (base s : Scopes) (ts : List Terminal) → IsSame base s → mem (ahead tables parsed s ts) behind ≡ true → past_specifiers fixed (Between s.reading.typed) base ts ≡ ts
+unfolding ahead mem past_specifiers
+specifiers_end fixed base s [] b h = refl
+specifiers_end fixed base s (t ∷ ts) b e = by (t.kind == 111) refl
+  where
+    by : (x : Bool) → (t.kind == 111) ≡ x → past_specifiers fixed (Between s.reading.typed) base (t ∷ ts) ≡ t ∷ ts
+    by true q = name_end fixed s.reading.typed base t ts q (subst (λ z. (s.reading.typed || not (is_type z t.name)) ≡ true) b.entries (of_end behind (t.kind == 111) (is_type s.entries t.name) s.reading.typed (bracket_kind s.brackets t.kind) refl e q))
+    by false q = step_end fixed s.reading.typed base t ts q (absent behind 70 refl refl refl refl s t e) (absent behind 72 refl refl refl refl s t e) (no_specifier s t e q)

@@ -1,12 +1,11 @@
 -- What the kind of a token in the scopes tells of the token itself, and the other way.
-use Rattle.std.proofs.Common.{◌≡◌, ℕ, Bool, true, false, not, ◌&&◌, ◌||◌, List, [], ◌∷◌, refl, ◌∙◌}
+use Rattle.std.proofs.Common.{◌≡◌, ℕ, Bool, true, false, ◌||◌, List, [], ◌∷◌, refl, ◌∙◌}
 use Rattle.std.proofs.lemmas.Bool.{eqb-true}
 use Rattle.std.specs.Prelude.{◌==◌, if◌then◌else◌}
 use Rattle.c_model.specs.declared.grammar.Terminal.{Terminal}
 use Rattle.c_model.specs.GrammarForm.{mem}
 use Rattle.c_model.specs.NameScopes.{Scopes, kind, bracket_kind, is_closing, is_given, own_kind, closes, is_type}
-use Rattle.c_model.proofs.KindSets.{clash, or_cases, mem_one}
-use mathlib.Core.Logic.{◌⊎◌, inl, inr}
+use Rattle.c_model.proofs.KindSets.{clash, mem_one}
 
 -- a set with no kind of identifiers and of brackets inside attributes
 abbrev pub Plain : List ℕ → Type 0
@@ -53,11 +52,11 @@ given : (F : List ℕ) (c : Bool) (k : ℕ) → mem k F ≡ false → mem 117 F 
 given F true k a b = b
 given F false k a b = a
 
-unseen : (F : List ℕ) (brackets : List ℕ) (k : ℕ) → mem k F ≡ false → mem 116 F ≡ false → mem 117 F ≡ false → mem (bracket_kind brackets k) F ≡ false
+pub unseen : (F : List ℕ) (brackets : List ℕ) (k : ℕ) → mem k F ≡ false → mem 116 F ≡ false → mem 117 F ≡ false → mem (bracket_kind brackets k) F ≡ false
 unseen F [] k a b c = given F (is_given k) k a c
 unseen F (last ∷ brackets) k a b c = choose F (is_closing k) (closes last k) (own_kind k) (given F (is_given k) k a c) b c
 
-unnamed : (F : List ℕ) (b x y : Bool) (j : ℕ) → b ≡ false → mem (if b then (if x then (if y then 113 else 112) else 111) else j) F ≡ true → mem j F ≡ true
+pub unnamed : (F : List ℕ) (b x y : Bool) (j : ℕ) → b ≡ false → mem (if b then (if x then (if y then 113 else 112) else 111) else j) F ≡ true → mem j F ≡ true
 unnamed F true x y j e h = absurd (cc)
 unnamed F false x y j e h = h
 

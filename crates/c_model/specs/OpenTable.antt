@@ -1,5 +1,7 @@
--- The parser's table with its tests of the tokens ahead left out of the productions that are named here: there the
--- grammar's production stands, in which either alternative may be taken wherever it derives or begins what comes.
+-- The parser's table without the tests that are proved to lose nothing: in these productions the grammar's stands, in
+-- which either alternative may be taken wherever it derives or begins what comes. What is left of the tests: a list of
+-- type specifiers and qualifiers takes each that comes next; braces that come next belong to the nearest `struct` or
+-- `enum` that may have them; and where an array may follow attributes, `[` and `[` begin one more.
 use Rattle.std.specs.Prelude.{[], ◌∷◌}
 use Rattle.c_model.specs.declared.grammar.Rule.{Rule}
 use Rattle.c_model.specs.declared.grammar.Rule.TheVariants as r
@@ -18,6 +20,7 @@ enumerators = maybe (word (k.Name ∷ k.TypedefName ∷ []) act.TypeSpecifier) t
 
 unfoldable pub open_table : Rule → Form
 open_table r.Enum = token k.Enum then rule r.Attrs then when test.EnumeratorsAhead enumerators (word (k.Name ∷ k.TypedefName ∷ []) act.TypeSpecifier then maybe (token k.Colon then rule r.Squals))
+open_table r.External = grammar r.External
 open_table r.Declaration = grammar r.Declaration
 open_table r.Block = grammar r.Block
 open_table r.Param = grammar r.Param

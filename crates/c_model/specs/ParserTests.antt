@@ -219,7 +219,7 @@ past_declarator n (t ∷ ts) = if ends_declarator n t.kind then t ∷ ts else if
 
 -- behind attributes, specifiers and a declarator stands `{`
 abbrev pub sees_function : Scopes → List Terminal → Bool
-sees_function s ts = specifies s ts && sees k.OpenBrace (past_declarator 0 (past_specifiers false (Between false) s (past_attributes 0 ts)))
+sees_function s ts = specifies s ts && sees k.OpenBrace (past_declarator 0 (past_specifiers false (Between s.reading.typed) s (past_attributes 0 ts)))
 
 -- behind the tag of an enumeration
 abbrev pub sees_enumerators : Scopes → List Terminal → Bool

@@ -86,7 +86,7 @@ pub record Met : Type 0 where
   pub options_ended : Bool
   pub mode : Option Mode
   pub file : Option (List ℕ)
-  pub room : ℕ        -- how many bytes all further words may have
+  pub room : ℕ  -- how many bytes all further words may have
 
 -- behind `--` every word is a file
 abbrev pub meaning_as : Expected → Bool → List ℕ → Meaning

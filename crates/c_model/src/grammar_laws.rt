@@ -70,8 +70,3 @@ pub fn tests_add_no_unit()
 pub fn tests_add_no_front()
     ensures { (ts rest : List Terminal) → Begins parsed (rule r.Unit) start ts rest → Begins opened (rule r.Unit) start ts rest }
 {}
-
-#[tactic(auto, using(crate::proofs::ScannedSpecifiers::probe))]
-pub fn temporary()
-    ensures { true ≡ true }
-{}

@@ -7,8 +7,8 @@
 pub mod condition_laws;
 pub mod conditions;
 pub mod constants;
-pub mod directives;
 pub mod declarations;
+pub mod directives;
 pub mod examples;
 pub mod flow;
 pub mod grammar;

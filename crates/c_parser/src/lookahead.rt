@@ -451,13 +451,13 @@ fn is_fixed(fixed: bool, place: Within, kind: u8) -> bool
     fixed || outside && kind == kinds::COLON
 }
 
-/// What is behind the specifiers.
+/// What is behind the specifiers, where a type specifier may stand before them.
 #[tactic(auto, unfolding(c_model::specs::ParserTests::past_specifiers))]
-fn past_specifiers<'a>(names: &Names, tokens: &'a [Terminal]) -> &'a [Terminal]
-    ensures { result.now ≡ spec.past_specifiers false (within.Between false) names.now tokens.now }
+fn past_specifiers<'a>(typed: bool, names: &Names, tokens: &'a [Terminal]) -> &'a [Terminal]
+    ensures { result.now ≡ spec.past_specifiers false (within.Between typed) names.now tokens.now }
 {
     let mut rest = tokens;
-    let mut place = Within::Between(false);
+    let mut place = Within::Between(typed);
     let mut fixed = false;
     while let Some((first, more)) = split(rest) {
         let later = is_fixed(fixed, place, first.kind);
@@ -516,7 +516,7 @@ fn sees_function(names: &Names, tokens: &[Terminal]) -> bool
     if !specifies(names, tokens) {
         return false;
     }
-    let declarator = past_specifiers(names, past_attributes(tokens));
+    let declarator = past_specifiers(names.is_typed(), names, past_attributes(tokens));
     sees(kinds::OPEN_BRACE, past_declarator(declarator))
 }
 
@@ -528,7 +528,7 @@ fn sees_enumerators(names: &Names, tokens: &[Terminal]) -> bool
         Some((first, rest)) => {
             first.kind == kinds::OPEN_BRACE
                 || first.kind == kinds::COLON
-                    && sees(kinds::OPEN_BRACE, past_specifiers(names, rest))
+                    && sees(kinds::OPEN_BRACE, past_specifiers(false, names, rest))
         }
         None => false,
     }

@@ -16,8 +16,8 @@ pub enum Refusal {
     Memory,
     /// The token of this rank begins a part inside 1,000 others.
     Deep(usize),
-    /// S01: the token of this rank is the first with which no translation unit can go on, by the parser's table; the
-    /// number of tokens, where they are the front of a unit and no unit.
+    /// S01: the token of this rank is the first with which no translation unit can go on; the number of tokens, where they
+    /// are the front of a unit and no unit.
     Fault(usize),
 }
 
@@ -29,7 +29,8 @@ const MAX_DEPTH: usize = 1000;
 /// The trees of a translation unit (ISO/IEC 9899:2024, 6.9), which are one, or why there is none.
 ///
 /// The tree is one that the grammar derives, and the only one of the parser's table. The tokens before a fault begin a
-/// unit by the grammar, and no longer front does by the parser's table.
+/// unit by the grammar, and no longer front does by the open table: the grammar, but that lists of type specifiers and
+/// the braces of `struct` and `enum` take what comes next, and `[` and `[` begin attributes where an array may follow.
 pub fn parse(alloc: Global, tokens: &[Terminal]) -> Result<Items<Tree>, Refusal>
     ensures { Parsed tokens.now result }
 {

@@ -57,7 +57,7 @@ pub enum ExprForm {
         body: Block,
         place: Place,
     },
-    /// An array and an index in brackets, in this order.
+    /// What stands before the brackets, and in them; either may be the array.
     Index {
         array: Expr,
         index: Expr,

@@ -14,7 +14,8 @@ use std::alloc::Global;
 use std::marker::Model;
 use std::rc::Rc;
 
-/// The forms of a statement (6.8), each with its first and its last token; a place before these is that of its word.
+/// The forms of a statement (6.8), each with its first token behind its attributes, and its last; a place before these is
+/// that of its word.
 #[cycle(syntax)]
 #[derive(Drop)]
 pub enum StatementForm {

@@ -3,3 +3,5 @@ pub mod TableLaws
 pub mod ParameterLaws
 pub mod SoundLaws
 pub mod ScopeLaws
+pub mod CompositeLaws
+pub mod UseLaws

@@ -152,7 +152,7 @@ taken_again d ty before scope id es None e h =
 taken_again d ty before scope id es (Some old) e h =
     let k = h old refl in
     changed_same (taken (record d { ty = ty }) before scope) (redeclared d scope) id es old (sym e)
-      (λ i. record { latest = record d { ty = k.0 i }; before = k.1 i; defined = old.defined || d.defines; scope = scope; used = old.used })
+    (λ i. record { latest = record d { ty = k.0 i }; before = k.1 i; defined = old.defined || d.defines; scope = scope; used = old.used })
 
 -- ---- structures
 

@@ -71,13 +71,13 @@ keeps_changed f at [] id = λ h. h
 keeps_changed f at (d ∷ ds) id =
     elim (nat_eq at d.0) as (λ t. IsTrue (is_declared id (d ∷ ds)) → IsTrue (is_declared id (cond t ((d.0, f d.1) ∷ ds) (d ∷ changed f at ds)))) [
       | true ↦ elim (nat_eq id d.0) as (λ t. IsTrue (is_some (cond t (Some d.1) (with_id id ds))) → IsTrue (is_some (cond t (Some (f d.1)) (with_id id ds)))) [
-          | true ↦ λ h. refl
-          | false ↦ λ h. h
-        ]
+        | true ↦ λ h. refl
+        | false ↦ λ h. h
+      ]
       | false ↦ elim (nat_eq id d.0) as (λ t. IsTrue (is_some (cond t (Some d.1) (with_id id ds))) → IsTrue (is_some (cond t (Some d.1) (with_id id (changed f at ds))))) [
-          | true ↦ λ h. h
-          | false ↦ λ h. keeps_changed f at ds id h
-        ]
+        | true ↦ λ h. h
+        | false ↦ λ h. keeps_changed f at ds id h
+      ]
     ]
 
 pub name_more : (ds : Table) (bs : List (List ℕ × ℕ)) (name : List ℕ) (id : ℕ) → AreDeclared ds bs → IsTrue (is_declared id ds) → AreDeclared ds (bs ++ (name, id) ∷ [])

@@ -63,11 +63,7 @@ fn one_parameter(alloc: Global, ty: CType) -> Result<TypeList, NoMemory>
     Ok(list)
 }
 
-fn function_type(
-    alloc: Global,
-    answer: CType,
-    parameters: TypeList,
-) -> Result<CType, NoMemory>
+fn function_type(alloc: Global, answer: CType, parameters: TypeList) -> Result<CType, NoMemory>
     ensures { IfOk result (λ made. made ≡ s.function_type answer (t.types parameters)) }
 {
     plain(alloc, TypeForm::Function(answer, parameters, false))

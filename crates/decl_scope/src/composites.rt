@@ -26,7 +26,11 @@ pub fn with_length(alloc: Global, earlier: &CType, later: &CType) -> Result<CTyp
     match (earlier.form(), later.form()) {
         (TypeForm::Array(_, Some(length)), TypeForm::Array(element, None)) => {
             let element = element.copy(alloc)?;
-            CType::new(alloc, TypeForm::Array(element, Some(*length)), later.quals())
+            CType::new(
+                alloc,
+                TypeForm::Array(element, Some(*length)),
+                later.quals(),
+            )
         }
         _ => later.copy(alloc),
     }
@@ -53,7 +57,11 @@ pub fn composite(alloc: Global, a: &CType, b: &CType) -> Result<CType, NoMemory>
         (TypeForm::Function(r, ps, variadic), TypeForm::Function(s, qs, _)) => {
             let answer = composite(alloc, r, s)?;
             let parameters = composite_types(alloc, ps.as_slice(), qs.as_slice())?;
-            CType::new(alloc, TypeForm::Function(answer, parameters, *variadic), a.quals())
+            CType::new(
+                alloc,
+                TypeForm::Function(answer, parameters, *variadic),
+                a.quals(),
+            )
         }
         _ => a.copy(alloc),
     }

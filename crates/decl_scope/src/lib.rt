@@ -8,6 +8,7 @@ mod declared;
 mod entry;
 mod errors;
 mod joining;
+pub mod laws;
 mod level;
 mod names;
 mod rules;

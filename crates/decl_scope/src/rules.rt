@@ -10,7 +10,7 @@ use crate::entry::Entry;
 use crate::typedefs::same_typedef;
 use c_model::declarations::{Kind, Linkage};
 use c_types::{CType, Structs, TypeForm, compatible};
-use cake_base::{Fault, Family, NoMemory, Place, Rule};
+use cake_base::{Family, Fault, NoMemory, Place, Rule};
 use std::alloc::Global;
 
 /// A rule of the family C at a place.

@@ -213,7 +213,14 @@ impl Scopes {
         ensures err { OnErr result (self.new ≡ self.old) }
     {
         let id = self.ids;
-        declare_first(self.alloc, &mut self.innermost, &mut self.linked, &mut self.table, entry, id)?;
+        declare_first(
+            self.alloc,
+            &mut self.innermost,
+            &mut self.linked,
+            &mut self.table,
+            entry,
+            id,
+        )?;
         self.ids += 1;
         Ok(id)
     }

@@ -1,8 +1,9 @@
 //! Scripts of declarations with what they answer: a row is a unit in short, a step of it a line.
-ghost use Rattle.std.specs.Prelude.{ℕ, pos, None, Some, IsTrue, IfOk};
+ghost use Rattle.std.specs.Prelude.{◌≡◌, ℕ, pos, None, Some, IsTrue, IfOk};
 ghost use Rattle.c_model.specs.Types.{form_of_type};
 ghost use Rattle.c_model.specs.Structures.{names_below};
 ghost use Rattle.c_model.specs.Declarations as d;
+ghost use Rattle.c_model.specs.Scopes as m;
 
 use super::*;
 use c_model::numbers::{Basic, Const};
@@ -71,38 +72,28 @@ fn enumeration(alloc: Global, order: u32) -> Result<CType, NoMemory>
     CType::new(alloc, TypeForm::Enum(Basic::Int, order), PLAIN)
 }
 
-/// The type of a word: `int`, `long`, `int[]`, `int[3]`, `int[4]`, `int()`, `exit()`, `int(*())[]`,
-/// `int(*())[3]`, `int(*())[4]`, and enumerations.
-fn type_of(alloc: Global, word: &str) -> Result<CType, NoMemory>
+/// The length that a word gives an array: `[]`, `[3]` or `[4]`.
+fn length_of(word: &str) -> Option<u64> {
+    if word == "[3]" {
+        return Some(3);
+    }
+    if word == "[4]" {
+        return Some(4);
+    }
+    None
+}
+
+/// A function that gives a pointer to an array.
+fn array_function(alloc: Global, length: Option<u64>) -> Result<CType, NoMemory>
     ensures { IfOk result (λ t. (n : ℕ) → IsTrue (names_below n t)) }
 {
-    if word == "long" {
-        return int(alloc, Basic::Long);
-    }
-    if word == "int[]" {
-        return array(alloc, None);
-    }
-    if word == "int[3]" {
-        return array(alloc, Some(3));
-    }
-    if word == "int[4]" {
-        return array(alloc, Some(4));
-    }
-    if word == "int()" {
-        return function(alloc, int(alloc, Basic::Int)?);
-    }
-    if word == "exit()" {
-        return exit_type(alloc);
-    }
-    if word == "int(*())[]" {
-        return function(alloc, pointer(alloc, array(alloc, None)?)?);
-    }
-    if word == "int(*())[3]" {
-        return function(alloc, pointer(alloc, array(alloc, Some(3))?)?);
-    }
-    if word == "int(*())[4]" {
-        return function(alloc, pointer(alloc, array(alloc, Some(4))?)?);
-    }
+    function(alloc, pointer(alloc, array(alloc, length)?)?)
+}
+
+/// `int`, and the enumerations 1 and 2.
+fn number_type(alloc: Global, word: &str) -> Result<CType, NoMemory>
+    ensures { IfOk result (λ t. (n : ℕ) → IsTrue (names_below n t)) }
+{
     if word == "enum1" {
         return enumeration(alloc, 1);
     }
@@ -110,6 +101,36 @@ fn type_of(alloc: Global, word: &str) -> Result<CType, NoMemory>
         return enumeration(alloc, 2);
     }
     int(alloc, Basic::Int)
+}
+
+/// `int()`, and `exit()` for the type of that function.
+fn plain_type(alloc: Global, word: &str) -> Result<CType, NoMemory>
+    ensures { IfOk result (λ t. (n : ℕ) → IsTrue (names_below n t)) }
+{
+    if word == "long" {
+        return int(alloc, Basic::Long);
+    }
+    if word == "int()" {
+        return function(alloc, int(alloc, Basic::Int)?);
+    }
+    if word == "exit()" {
+        return exit_type(alloc);
+    }
+    number_type(alloc, word)
+}
+
+/// The type of a word: one of those above, or `[]`, `[3]` or `[4]` for arrays of int, and `&[]`,
+/// `&[3]` or `&[4]` for functions that give a pointer to such an array.
+fn type_of(alloc: Global, word: &str) -> Result<CType, NoMemory>
+    ensures { IfOk result (λ t. (n : ℕ) → IsTrue (names_below n t)) }
+{
+    if let Some(length) = word.strip_prefix('&') {
+        return array_function(alloc, length_of(length));
+    }
+    if word.starts_with('[') {
+        return array(alloc, length_of(word));
+    }
+    plain_type(alloc, word)
 }
 
 fn is_function(ty: &CType) -> bool
@@ -125,7 +146,11 @@ fn is_function(ty: &CType) -> bool
 fn kind_of(ty: &CType) -> Kind
     ensures { IsTrue (d.fits_kind result (form_of_type ty.now) None) }
 {
-    if is_function(ty) { Kind::Function } else { Kind::Object }
+    if is_function(ty) {
+        Kind::Function
+    } else {
+        Kind::Object
+    }
 }
 
 fn at(line: u32) -> Place {
@@ -154,6 +179,19 @@ fn declare(scopes: &mut Scopes, entry: Entry) -> Result<DeclId, ScopeError>
     scopes.declare(entry)
 }
 
+/// What a declaration of that word and type declares.
+fn kind_for(storage: &str, ty: &CType) -> Kind
+    ensures { IsTrue (d.fits_kind result (form_of_type ty.now) None) }
+{
+    if storage == "typedef" {
+        return Kind::TypeName;
+    }
+    if storage == "tag" {
+        return Kind::Tag;
+    }
+    kind_of(ty)
+}
+
 /// Declares an object or a function, a name of a type, or a tag of an enumeration.
 fn declare_typed(
     alloc: Global,
@@ -161,20 +199,12 @@ fn declare_typed(
     words: &[&str],
     line: u32,
 ) -> Result<DeclId, ScopeError> {
-    let (storage, ty, name) = (word(words, 0), word(words, 1), word(words, 2));
-    let ty = type_of(alloc, ty)?;
-    let linkage = linkage_of(scopes, storage, name);
-    let kind = if storage == "typedef" {
-        Kind::TypeName
-    } else if storage == "tag" {
-        Kind::Tag
-    } else {
-        kind_of(&ty)
-    };
+    let (storage, name) = (word(words, 0), word(words, 2));
+    let ty = type_of(alloc, word(words, 1))?;
     let entry = Entry {
         name: text(alloc, name)?,
-        kind,
-        linkage,
+        kind: kind_for(storage, &ty),
+        linkage: linkage_of(scopes, storage, name),
         ty,
         value: None,
         defines: word(words, 3) == "{}",
@@ -289,52 +319,103 @@ fn write_length(alloc: Global, scopes: &Scopes, name: &str, out: &mut String) ->
     Ok(())
 }
 
-/// Gives an object the type int[3].
+/// Whether a declaration of that kind may have that type, and no value.
+fn may_have(kind: Kind, ty: &CType) -> bool
+    ensures { IsTrue result → IsTrue (d.fits_kind kind (form_of_type ty.now) None) }
+{
+    match kind {
+        Kind::Object => !is_function(ty),
+        Kind::Function => false,
+        Kind::TypeName => true,
+        Kind::Enumerator => false,
+        Kind::Tag => true,
+    }
+}
+
+/// Gives what has an id a type, where it may have it.
+fn settle_id(scopes: &mut Scopes, id: DeclId, ty: CType)
+    requires declared { IsTrue (m.is_declared id.0 scopes.old.declared) }
+    requires known { (n : ℕ) → IsTrue (names_below n ty) }
+{
+    let kind = scopes.entry(id).kind;
+    if may_have(kind, &ty) {
+        scopes.settle(id, ty, None);
+    }
+}
+
+/// Gives an object the type [3].
 fn settle(alloc: Global, scopes: &mut Scopes, name: &str) -> Result<(), NoMemory> {
     let ty = array(alloc, Some(3))?;
     if let Some(id) = scopes.look(false, name.as_bytes()) {
-        if scopes.entry(id).kind == Kind::Object {
-            scopes.settle(id, ty, None);
-        }
+        settle_id(scopes, id, ty);
     }
     Ok(())
 }
 
-/// A step that enters, leaves, declares nothing, or asks.
-fn ask(
-    alloc: Global,
-    scopes: &mut Scopes,
-    words: &[&str],
-    line: u32,
-    out: &mut String,
-) -> Result<(), Fail> {
+/// A step that asks for an id.
+fn ask_id(scopes: &Scopes, step: &str, name: &str) -> Option<DeclId> {
+    if step == "tagged" {
+        return scopes.look(true, name.as_bytes());
+    }
+    if step == "here" {
+        return scopes.here(false, name.as_bytes());
+    }
+    scopes.look(false, name.as_bytes())
+}
+
+/// A step that asks, and changes nothing.
+fn ask(alloc: Global, scopes: &Scopes, words: &[&str], out: &mut String) -> Result<(), Fail> {
+    let (step, name) = (word(words, 0), word(words, 1));
+    if step == "length" {
+        return write_length(alloc, scopes, name, out);
+    }
+    if step == "surrounds" {
+        return write_flag(scopes, name, out);
+    }
+    if step == "unresolved" {
+        return write_fault(alloc, scopes.unresolved(), out);
+    }
+    write_id(alloc, ask_id(scopes, step, name), out)
+}
+
+fn leave(scopes: &mut Scopes) {
+    if !scopes.is_file_scope() {
+        scopes.leave();
+    }
+}
+
+/// A step that enters, leaves, settles or notes; whether it was one.
+fn go_on(alloc: Global, scopes: &mut Scopes, words: &[&str], line: u32) -> Result<bool, NoMemory> {
     let (step, name) = (word(words, 0), word(words, 1));
     if step == "{" {
         scopes.enter()?;
-    } else if step == "lambda" {
-        scopes.enter_literal()?;
-    } else if step == "}" {
-        if !scopes.is_file_scope() {
-            scopes.leave();
-        }
-    } else if step == "look" {
-        write_id(alloc, scopes.look(false, name.as_bytes()), out)?;
-    } else if step == "here" {
-        write_id(alloc, scopes.here(false, name.as_bytes()), out)?;
-    } else if step == "tagged" {
-        write_id(alloc, scopes.look(true, name.as_bytes()), out)?;
-    } else if step == "length" {
-        write_length(alloc, scopes, name, out)?;
-    } else if step == "settle" {
-        settle(alloc, scopes, name)?;
-    } else if step == "use" {
-        note(scopes, name, if word(words, 2) == "later" { 1000 - line } else { line });
-    } else if step == "surrounds" {
-        write_flag(scopes, name, out)?;
-    } else if step == "unresolved" {
-        write_fault(alloc, scopes.unresolved(), out)?;
+        return Ok(true);
     }
-    Ok(())
+    if step == "lambda" {
+        scopes.enter_literal()?;
+        return Ok(true);
+    }
+    if step == "}" {
+        leave(scopes);
+        return Ok(true);
+    }
+    if step == "settle" {
+        settle(alloc, scopes, name)?;
+        return Ok(true);
+    }
+    if step == "use" {
+        note(scopes, name, line_of(word(words, 2), line));
+        return Ok(true);
+    }
+    Ok(false)
+}
+
+/// The line of a use, which comes before those of earlier steps where the word says so.
+fn line_of(word: &str, line: u32) -> u32 {
+    if word == "later" {
+        return 1000u32.saturating_sub(line);
+    }
+    line
 }
 
 fn note(scopes: &mut Scopes, name: &str, line: u32) {
@@ -343,10 +424,23 @@ fn note(scopes: &mut Scopes, name: &str, line: u32) {
     }
 }
 
+fn side(outside: bool, defined: bool) -> &'static str {
+    match (outside, defined) {
+        (true, true) => " out+",
+        (true, false) => " out",
+        (false, true) => " in+",
+        (false, false) => " in",
+    }
+}
+
 /// Writes whether a name is one of the surroundings of a literal, and whether it is defined.
 fn write_flag(scopes: &Scopes, name: &str, out: &mut String) -> Result<(), Fail> {
     if let Some(id) = scopes.look(false, name.as_bytes()) {
-        out.push_str(if scopes.is_surrounding(id) { " out" } else { " in" })?;
+        out.push_str(if scopes.is_surrounding(id) {
+            " out"
+        } else {
+            " in"
+        })?;
         out.push_str(if scopes.is_defined(id) { "+" } else { "" })?;
     }
     Ok(())
@@ -370,6 +464,25 @@ fn is_declaration(step: &str) -> bool {
         || step == "local"
         || step == "typedef"
         || step == "tag"
+        || step == "struct"
+        || step == "enumerator"
+}
+
+/// A step that declares.
+fn declare_step(
+    alloc: Global,
+    scopes: &mut Scopes,
+    words: &[&str],
+    line: u32,
+) -> Result<DeclId, ScopeError> {
+    let step = word(words, 0);
+    if step == "enumerator" {
+        return declare_enumerator(alloc, scopes, word(words, 1), line);
+    }
+    if step == "struct" {
+        return declare_struct(alloc, scopes, words, line);
+    }
+    declare_typed(alloc, scopes, words, line)
 }
 
 fn take(
@@ -379,19 +492,14 @@ fn take(
     line: u32,
     out: &mut String,
 ) -> Result<(), Fail> {
-    let step = word(words, 0);
-    if is_declaration(step) {
-        let answer = declare_typed(alloc, scopes, words, line);
-        write_answer(alloc, answer, out)
-    } else if step == "enumerator" {
-        let answer = declare_enumerator(alloc, scopes, word(words, 1), line);
-        write_answer(alloc, answer, out)
-    } else if step == "struct" {
-        let answer = declare_struct(alloc, scopes, words, line);
-        write_answer(alloc, answer, out)
-    } else {
-        ask(alloc, scopes, words, line, out)
+    if is_declaration(word(words, 0)) {
+        let answer = declare_step(alloc, scopes, words, line);
+        return write_answer(alloc, answer, out);
     }
+    if go_on(alloc, scopes, words, line)? {
+        return Ok(());
+    }
+    ask(alloc, scopes, words, out)
 }
 
 /// What the steps of a script answer.
@@ -410,7 +518,7 @@ fn answers(alloc: Global, script: &str) -> Result<String, Fail> {
 }
 
 #[test]
-fn scripts_answer(rt: HostRuntime) -> Result<(), Fail> {
+fn rules_at_their_places(rt: HostRuntime) -> Result<(), Fail> {
     let rows = [
         // each rule once, at its place
         ("local int cake_x|look cake_x", " C01:1 -"),
@@ -420,14 +528,22 @@ fn scripts_answer(rt: HostRuntime) -> Result<(), Fail> {
         ("tag enum1 e {}|tag enum1 e {}", " 0 C06:2"),
         ("struct s|tag enum1 s", " 0 C06:2"),
         ("public exit() exit {}", " C07:1"),
-        (
-            "static int() f|use f|use f later|unresolved",
-            " 0 C08:2",
-        ),
+        ("static int() f|use f|use f later|unresolved", " 0 C08:2"),
         // the smallest number first
         ("public int cake_x|static long cake_x", " C01:1 C01:2"),
         ("static int x|public long x", " 0 C03:2"),
         ("static int exit", " C07:1"),
+    ];
+    for (script, want) in rows {
+        let got = answers(rt.alloc(), script)?;
+        assert_eq!(rt; got.as_str(), want, "at {script}");
+    }
+    Ok(())
+}
+
+#[test]
+fn names_and_ids(rt: HostRuntime) -> Result<(), Fail> {
+    let rows = [
         // built-in functions
         ("public exit() exit|public exit() exit", " 0 0"),
         ("static exit() exit", " C07:1"),
@@ -441,7 +557,7 @@ fn scripts_answer(rt: HostRuntime) -> Result<(), Fail> {
         ("{|extern int x|}|public long x|look x", " 0 C03:4 -"),
         // names of types
         ("typedef int t|typedef int t|typedef long t", " 0 0 C03:3"),
-        ("typedef int[] t|typedef int[3] t", " 0 C03:2"),
+        ("typedef [] t|typedef [3] t", " 0 C03:2"),
         ("typedef enum1 t|typedef int t", " 0 C03:2"),
         ("typedef int t|{|typedef long t|look t|}|look t", " 0 1 1 0"),
         // a tag and an object; an enumerator and an object
@@ -449,20 +565,45 @@ fn scripts_answer(rt: HostRuntime) -> Result<(), Fail> {
         ("{|enumerator a|local int a|extern int a", " 0 C02:3 C02:4"),
         // a parameter in the scope of the body
         ("lambda|local int p|local int p|{|local int p", " 0 C02:3 1"),
+    ];
+    for (script, want) in rows {
+        let got = answers(rt.alloc(), script)?;
+        assert_eq!(rt; got.as_str(), want, "at {script}");
+    }
+    Ok(())
+}
+
+#[test]
+fn types_of_redeclarations(rt: HostRuntime) -> Result<(), Fail> {
+    let rows = [
         // arrays
         (
-            "extern int[] a|length a|extern int[3] a|length a|extern int[] a|length a|extern int[4] a",
+            "extern [] a|length a|extern [3] a|length a|extern [] a|length a|extern [4] a",
             " 0 []:1 0 [3]:3 0 [3]:5 C03:7",
         ),
-        ("public int[] a|settle a|extern int[4] a|extern int[3] a", " 0 C03:3 0"),
         (
-            "extern int(*())[] f|extern int(*())[3] f|extern int(*())[] f|extern int(*())[4] f",
+            "public [] a|settle a|extern [4] a|extern [3] a",
+            " 0 C03:3 0",
+        ),
+        (
+            "extern &[] f|extern &[3] f|extern &[] f|extern &[4] f",
             " 0 0 0 C03:4",
         ),
         ("extern enum1 x|extern int x|extern enum2 x", " 0 0 C03:3"),
         // a tag keeps its braces and is another one in another scope
         ("tag enum1 e {}|tag enum1 e|tag enum1 e {}", " 0 0 C06:3"),
         ("struct s {}|{|tag enum1 s|tagged s|}|tagged s", " 0 1 1 0"),
+    ];
+    for (script, want) in rows {
+        let got = answers(rt.alloc(), script)?;
+        assert_eq!(rt; got.as_str(), want, "at {script}");
+    }
+    Ok(())
+}
+
+#[test]
+fn scopes_and_uses(rt: HostRuntime) -> Result<(), Fail> {
+    let rows = [
         // shadowing and return
         (
             "local int x|{|look x|here x|local int x|look x|}|look x|look y",
@@ -478,8 +619,14 @@ fn scripts_answer(rt: HostRuntime) -> Result<(), Fail> {
             " 0 - 0 in",
         ),
         // uses
-        ("static int() f|use f|static int() f {}|unresolved", " 0 0 -"),
-        ("public int() f|use f|static int x|use x|unresolved", " 0 1 -"),
+        (
+            "static int() f|use f|static int() f {}|unresolved",
+            " 0 0 -",
+        ),
+        (
+            "public int() f|use f|static int x|use x|unresolved",
+            " 0 1 -",
+        ),
         (
             "static int() f|static int() g|use g later|use f later|unresolved|surrounds f",
             " 0 1 C08:996 in",
@@ -492,25 +639,27 @@ fn scripts_answer(rt: HostRuntime) -> Result<(), Fail> {
     Ok(())
 }
 
+/// Declares ints with such a storage word, named by their numbers.
+fn declare_ints(alloc: Global, scopes: &mut Scopes, storage: &str, count: u32) -> Result<(), Fail> {
+    for k in 0..count {
+        let name = format!(in alloc; "n{k}")?;
+        declare_typed(alloc, scopes, &[storage, "int", name.as_str()], k)?;
+    }
+    Ok(())
+}
+
 #[test]
 fn a_hundred_thousand_names(rt: HostRuntime) -> Result<(), Fail> {
     let alloc = rt.alloc();
     let mut scopes = Scopes::new(alloc)?;
-    let mut out = String::new(alloc);
-    for k in 0..100_000u32 {
-        let name = format!(in alloc; "n{k}")?;
-        take(alloc, &mut scopes, &["public", "int", name.as_str()], k, &mut out)?;
-    }
+    declare_ints(alloc, &mut scopes, "public", 100_000)?;
     scopes.enter()?;
-    for k in 0..100_000u32 {
-        let name = format!(in alloc; "n{k}")?;
-        take(alloc, &mut scopes, &["extern", "int", name.as_str()], k, &mut out)?;
-        assert_eq!(rt; scopes.look(false, name.as_bytes()), Some(DeclId(k)));
-    }
-    scopes.leave();
-    assert_eq!(rt; scopes.ids(), 100_000);
+    declare_ints(alloc, &mut scopes, "extern", 1_000)?;
+    assert_eq!(rt; scopes.here(false, b"n999"), Some(DeclId(999)));
+    assert_eq!(rt; scopes.here(false, b"n1000"), None);
     assert_eq!(rt; scopes.look(false, b"n99999"), Some(DeclId(99_999)));
     assert_eq!(rt; scopes.look(true, b"n99999"), None);
+    assert_eq!(rt; scopes.ids(), 100_000);
     Ok(())
 }
 

@@ -69,14 +69,14 @@ pub result_is_fitting : (op : BinOp) (left right : Bool) (l r : Const) → l.bas
 result_is_fitting op left right l r p q None h unsigned e = tt
 result_is_fitting op left right l r p q (Some v) h unsigned e =
     let f : IsTrue (fits (result_type op (wide left) (wide right)) v) =
-        subst (λ (z : Basic). IsTrue (fits (result_type op (wide left) z) v)) q (subst (λ (z : Basic). IsTrue (fits (result_type op z r.basic) v)) p h) in
+    subst (λ (z : Basic). IsTrue (fits (result_type op (wide left) z) v)) q (subst (λ (z : Basic). IsTrue (fits (result_type op z r.basic) v)) p h) in
     subst (λ (z : Bool). IsTrue (fits (wide z) v)) (sym e) (result_fits op left right v f)
 
 pub operation_is : (op : BinOp) (left right : Bool) (l r : Const) → l.basic ≡ wide left → r.basic ≡ wide right →
     calculated op l r ≡ converted_operation op (wide (operated_unsigned op left right)) l.value r.value
 operation_is op left right l r p q =
     let e : operand_type op l.basic r.basic ≡ wide (operated_unsigned op left right) =
-        ap (λ (z : Basic). operand_type op z r.basic) p ∙ ap (operand_type op (wide left)) q ∙ type_is op left right in
+    ap (λ (z : Basic). operand_type op z r.basic) p ∙ ap (operand_type op (wide left)) q ∙ type_is op left right in
     ap (λ (t : Basic). converted_operation op t l.value r.value) e
 
 abbrev pub valued_of : Bool → Option ℤ → Valued
@@ -89,8 +89,8 @@ pub both_is : (op : BinOp) (a b : Valued) (l r : Const) (x y : ℤ) → a.value 
 both_is op a b l r x y ax by lx ry p q unsigned u o e =
     let t : Basic = wide (operated_unsigned op a.unsigned b.unsigned) in
     let f : o ≡ operated op t (Some x) (Some y) =
-        e ∙ ap if_defined (operation_is op a.unsigned b.unsigned l r p q)
-        ∙ ap (λ (z : ℤ). if_defined (converted_operation op t z r.value)) lx ∙ ap (λ (z : ℤ). if_defined (converted_operation op t x z)) ry in
+    e ∙ ap if_defined (operation_is op a.unsigned b.unsigned l r p q)
+    ∙ ap (λ (z : ℤ). if_defined (converted_operation op t z r.value)) lx ∙ ap (λ (z : ℤ). if_defined (converted_operation op t x z)) ry in
     let g : operated op t a.value b.value ≡ operated op t (Some x) (Some y) =
-        ap (λ (z : Option ℤ). operated op t z b.value) ax ∙ ap (operated op t (Some x)) by in
+    ap (λ (z : Option ℤ). operated op t z b.value) ax ∙ ap (operated op t (Some x)) by in
     ap (λ (z : Bool). valued_of z o) u ∙ ap (valued_of (not (is_comparison op) && operated_unsigned op a.unsigned b.unsigned)) (f ∙ sym g)

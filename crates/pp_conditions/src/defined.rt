@@ -69,13 +69,7 @@ fn told(alloc: Global, tok: &PpTok, is_defined: bool) -> Result<PpTok, NoMemory>
 {
     let mut text = Bytes::new(alloc);
     text.push(if is_defined { b"1" } else { b"0" })?;
-    Ok(PpTok::new(
-        PpKind::Number,
-        tok.place,
-        tok.first,
-        tok.space,
-        text,
-    ))
+    Ok(PpTok::new(PpKind::Number, tok.place, tok.first, tok.space, text))
 }
 
 /// Whether a macro has that name.
@@ -140,11 +134,7 @@ fn next(
 ///
 /// P14 where `defined` has no operand, and P20 where an operator that is left out stands outside such
 /// an operand; the first of them from the left.
-pub fn defined_answered(
-    alloc: Global,
-    table: &MacroTable,
-    line: &PpList,
-) -> Result<PpList, Refusal>
+pub fn defined_answered(alloc: Global, table: &MacroTable, line: &PpList) -> Result<PpList, Refusal>
     ensures { Gives result (spec.defined_answered table.now.entries line.now) }
 {
     let mut out = PpList::new(alloc);

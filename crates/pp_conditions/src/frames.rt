@@ -16,15 +16,25 @@ use std::marker::Model;
 
 /// The kinds of expressions, from the loosest to the tightest (ISO/IEC 9899:2024, 6.5.6 to 6.5.16).
 pub const CONDITIONAL: u8 = 0;
+
 pub const LOGICAL_OR: u8 = 1;
+
 const LOGICAL_AND: u8 = 2;
+
 const INCLUSIVE_OR: u8 = 3;
+
 const EXCLUSIVE_OR: u8 = 4;
+
 const AND: u8 = 5;
+
 const EQUALITY: u8 = 6;
+
 const RELATIONAL: u8 = 7;
+
 const SHIFT: u8 = 8;
+
 const ADDITIVE: u8 = 9;
+
 const MULTIPLICATIVE: u8 = 10;
 
 /// The kind of expression that a binary operator makes.

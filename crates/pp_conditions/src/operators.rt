@@ -144,7 +144,11 @@ fn both(op: BinOp, l: &Part, r: &Part, left: i128, right: i128) -> Part
     ensures { result ≡ spec.of_binary (operator.Integer op) l.now r.now }
 {
     let unsigned = result_unsigned(op, l.is_unsigned(), r.is_unsigned());
-    let value = operated(op, typed(l.is_unsigned(), left), typed(r.is_unsigned(), right));
+    let value = operated(
+        op,
+        typed(l.is_unsigned(), left),
+        typed(r.is_unsigned(), right),
+    );
     Part::new(unsigned, value)
 }
 

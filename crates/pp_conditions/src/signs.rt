@@ -18,16 +18,43 @@ const SIGNS: [(&[u8], ConditionToken); 24] = [
     (b"%", ConditionToken::Operator(Infix::Integer(BinOp::Rem))),
     (b"+", ConditionToken::Operator(Infix::Integer(BinOp::Add))),
     (b"-", ConditionToken::Operator(Infix::Integer(BinOp::Sub))),
-    (b"<<", ConditionToken::Operator(Infix::Integer(BinOp::ShiftLeft))),
-    (b">>", ConditionToken::Operator(Infix::Integer(BinOp::ShiftRight))),
+    (
+        b"<<",
+        ConditionToken::Operator(Infix::Integer(BinOp::ShiftLeft)),
+    ),
+    (
+        b">>",
+        ConditionToken::Operator(Infix::Integer(BinOp::ShiftRight)),
+    ),
     (b"<", ConditionToken::Operator(Infix::Integer(BinOp::Less))),
-    (b">", ConditionToken::Operator(Infix::Integer(BinOp::Greater))),
-    (b"<=", ConditionToken::Operator(Infix::Integer(BinOp::LessEqual))),
-    (b">=", ConditionToken::Operator(Infix::Integer(BinOp::GreaterEqual))),
-    (b"==", ConditionToken::Operator(Infix::Integer(BinOp::Equal))),
-    (b"!=", ConditionToken::Operator(Infix::Integer(BinOp::NotEqual))),
-    (b"&", ConditionToken::Operator(Infix::Integer(BinOp::BitAnd))),
-    (b"^", ConditionToken::Operator(Infix::Integer(BinOp::BitXor))),
+    (
+        b">",
+        ConditionToken::Operator(Infix::Integer(BinOp::Greater)),
+    ),
+    (
+        b"<=",
+        ConditionToken::Operator(Infix::Integer(BinOp::LessEqual)),
+    ),
+    (
+        b">=",
+        ConditionToken::Operator(Infix::Integer(BinOp::GreaterEqual)),
+    ),
+    (
+        b"==",
+        ConditionToken::Operator(Infix::Integer(BinOp::Equal)),
+    ),
+    (
+        b"!=",
+        ConditionToken::Operator(Infix::Integer(BinOp::NotEqual)),
+    ),
+    (
+        b"&",
+        ConditionToken::Operator(Infix::Integer(BinOp::BitAnd)),
+    ),
+    (
+        b"^",
+        ConditionToken::Operator(Infix::Integer(BinOp::BitXor)),
+    ),
     (b"|", ConditionToken::Operator(Infix::Integer(BinOp::BitOr))),
     (b"&&", ConditionToken::Operator(Infix::Logic(LogicOp::And))),
     (b"||", ConditionToken::Operator(Infix::Logic(LogicOp::Or))),

@@ -348,7 +348,13 @@ fn replacements_are_counted(rt: HostRuntime) -> Result<(), Fail> {
     ];
     for (text, made) in rows {
         let mut work = Work { made: 1 };
-        let _ = evaluate(alloc, &table, hash(), &lexed(alloc, text.as_bytes())?, &mut work);
+        let _ = evaluate(
+            alloc,
+            &table,
+            hash(),
+            &lexed(alloc, text.as_bytes())?,
+            &mut work,
+        );
         assert_eq!(rt; work.made, made, "at {text}");
     }
     Ok(())

@@ -133,12 +133,7 @@ fn of_part(alloc: Global, tok: &PpTok) -> Result<ConditionToken, Refusal>
 }
 
 /// Adds the token of this rank.
-fn read_part(
-    alloc: Global,
-    line: &PpList,
-    at: usize,
-    tokens: &mut Tokens,
-) -> Result<(), Refusal>
+fn read_part(alloc: Global, line: &PpList, at: usize, tokens: &mut Tokens) -> Result<(), Refusal>
     requires { at < length line.now }
     ensures ok { OnOk result (Grows line.now at tokens.old tokens.new) }
     ensures err { IfErr result (λ e. Refuses e (spec.condition_tokens (drop at line.now))) }

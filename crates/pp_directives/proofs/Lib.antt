@@ -1,1 +1,4 @@
 pub mod ReadLaws
+pub mod NumberLaws
+pub mod StateLaws
+pub mod SplitLaws

@@ -97,7 +97,7 @@ impl Conditionals {
     pub fn outermost(&self) -> Option<Place>
         ensures { result ≡ spec.outermost self.now }
     {
-        match self.stack.first() {
+        match self.stack.first().copied() {
             Some(conditional) => Some(conditional.at),
             None => None,
         }

@@ -1,5 +1,5 @@
 //! The preprocessed tokens.
-ghost use Rattle.std.specs.Prelude.{◌≡◌, ◌++◌, [], length, OnOk, IfErr};
+ghost use Rattle.std.specs.Prelude.{◌≡◌, ◌++◌, ◌+◌, ◌≤◌, [], length, OnOk};
 ghost use Rattle.c_model.specs.Sources.{ranked_from};
 ghost use Rattle.pp_directives.specs.Outputs.{Appends};
 
@@ -41,6 +41,29 @@ pub fn standing(count: u32, place: Place) -> Place
     }
 }
 
+/// Adds copies of the tokens with their ranks, from this one on.
+fn add_ranked(
+    alloc: Global,
+    tokens: &mut PpList,
+    rank: u32,
+    new: &PpList,
+) -> Result<(), NoMemory>
+    requires so_far { length tokens.old ≡ rank }
+    requires room { rank + length new.now ≤ 1000000 }
+    ensures ok { OnOk result (tokens.new ≡ tokens.old ++ ranked_from rank new.now) }
+    ensures bound { length tokens.new ≤ 1000000 }
+{
+    for at in 0..new.count() {
+        let Some(tok) = new.get(at) else {
+            return Ok(());
+        };
+        let mut copy = tok.copy(alloc)?;
+        copy.place = standing(rank + at as u32, copy.place);
+        tokens.push(copy)?;
+    }
+    Ok(())
+}
+
 impl Output {
     /// No tokens.
     pub fn new(alloc: Global) -> Output
@@ -53,7 +76,8 @@ impl Output {
 
     /// The number of tokens, at most 1,000,000.
     pub fn count(&self) -> u32
-        ensures { result ≡ length self.now }
+        ensures value { result ≡ length self.now }
+        ensures bound { result ≤ 1000000 }
     {
         self.tokens.count() as u32
     }
@@ -63,21 +87,15 @@ impl Output {
     pub fn append(&mut self, alloc: Global, new: &PpList) -> Result<(), PrepError>
         ensures { Appends self.old new.now result self.new }
     {
-        let room = MOST_TOKENS - self.count();
+        let count = self.count();
+        let room = MOST_TOKENS - count;
         if let Some(past) = new.get(room as usize) {
             return Err(PrepError::Limit(LimitHit {
                 place: standing(MOST_TOKENS, past.place),
                 limit: Limit { number: 5 },
             }));
         }
-        for at in 0..new.count() {
-            let Some(tok) = new.get(at) else {
-                return Ok(());
-            };
-            let mut copy = tok.copy(alloc)?;
-            copy.place = standing(self.count(), copy.place);
-            self.tokens.push(copy)?;
-        }
+        add_ranked(alloc, &mut self.tokens, count, new)?;
         Ok(())
     }
 

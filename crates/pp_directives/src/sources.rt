@@ -142,8 +142,9 @@ impl Sources {
     pub fn mark_once(&mut self, file: u32)
         ensures { self.new ≡ spec.marked_once file self.old }
     {
-        if let Some(source) = self.files.get_mut(file as usize) {
-            source.once = true;
+        let at = file as usize;
+        if at < self.files.len() {
+            self.files[at].once = true;
         }
     }
 }

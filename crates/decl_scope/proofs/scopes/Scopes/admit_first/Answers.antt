@@ -15,7 +15,7 @@ pub invariant_of-self-2 : goal.invariant_of-self-2
 invariant_of-self-2 c =
     let ok = c.in_ok-declare_first.ensures.ok in
     subst IsSound (first_scopes (scopes_of c.self.inside) c.args.entry c.declare_first.new.innermost c.declare_first.new.linked c.declare_first.new.table ok.0 ok.1 ok.2)
-      (sound_first (scopes_of c.self.inside) c.args.entry c.self.invariant c.requires.fits (subst (λ s. IsTrue (knows s.structs c.args.entry.ty)) (sym c.self.view_is) c.requires.known))
+    (sound_first (scopes_of c.self.inside) c.args.entry c.self.invariant c.requires.fits (subst (λ s. IsTrue (knows s.structs c.args.entry.ty)) (sym c.self.view_is) c.requires.known))
 
 pub returns-clause-declared : goal.returns-clause-declared
 returns-clause-declared c =
