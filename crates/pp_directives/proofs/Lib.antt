@@ -2,3 +2,5 @@ pub mod ReadLaws
 pub mod NumberLaws
 pub mod StateLaws
 pub mod SplitLaws
+pub mod ControlLaws
+pub mod NameLaws

@@ -1,6 +1,6 @@
 -- Small laws of the parts of the state.
 use Rattle.std.proofs.Common.{◌≡◌, ℕ, zero, suc, ◌+◌, ◌-◌, ◌<◌, ◌≤◌, true, false, List, [], ◌∷◌, ◌++◌, length, reverse, drop, slice_get, slice_index_or, slice_set, Option, Some, None, refl, ap, sym, ◌∙◌, arith, append_assoc}
-use Rattle.std.specs.Option.{option_map}
+use Rattle.std.specs.Option.{option_map, is_some}
 use Rattle.std.proofs.lemmas.List.{length-append}
 use mathlib.Core.List.{reverse-cons}
 use Rattle.cake_base.specs.declared.rules.Act.{Act}
@@ -76,6 +76,10 @@ copied-some o p f x e h = sym e ∙ ap (option_map f) h
 
 pub copied-none : {A B : Type 0} (o : Option A) (p : Option B) (f : A → B) → option_map f o ≡ p → o ≡ None → p ≡ None
 copied-none o p f e h = sym e ∙ ap (option_map f) h
+
+pub not_some : {A B : Type 0} (o : Option A) (p : Option B) (f : A → B) → option_map f o ≡ p → is_some o ≡ false → p ≡ None
+not_some None p f e h = sym e
+not_some (Some x) p f e h = cc
 
 -- ---- tokens by their ranks
 

@@ -50,7 +50,7 @@ fn check_room(unit: &Unit, at: Place, size: usize) -> Result<(), PrepError>
     if unit.held.count() >= MOST_FILES {
         return Err(limit(at, 2));
     }
-    if size as u64 > MOST_BYTES || unit.bytes > MOST_BYTES - size as u64 {
+    if unit.bytes.saturating_add(size as u64) > MOST_BYTES {
         return Err(limit(at, 1));
     }
     Ok(())

@@ -1,0 +1,12 @@
+use Rattle.std.proofs.Common.{ap, sym, ◌∙◌}
+use Rattle.c_model.specs.Macros.{found}
+use Rattle.pp_directives.specs.Controls.{name_of}
+use Rattle.pp_directives.proofs.ControlLaws.{is-defined}
+use Rattle.pp_directives.proofs.branches.name_is_defined.Goals as goal
+
+pub returns-in-Some : goal.returns-in-Some
+returns-in-Some c =
+    is-defined c.args.part.now c.args.unit.now c.in-Some.name.now c.find.result _ c.is_some.result
+    (ap (λ p. name_of p.tokens) (sym c.part.view_is) ∙ sym c.in-Some.ensures)
+    (c.find.ensures ∙ ap (λ s. found c.in-Some.name.now s.table.entries) c.unit.view_is)
+    c.is_some.ensures
