@@ -239,7 +239,8 @@ fn tokens_are_put_by_the_mode_that_expands(rt: HostRuntime) -> Result<(), Fail> 
 fn doubling(alloc: Global, last: u32) -> Result<String, Fail> {
     let mut text = String::from_str(alloc, "#define A0 x\n")?;
     for k in 1..22u32 {
-        let line = format!(in alloc; "#define A{k} A{0} A{0}\n", k - 1)?;
+        let before = k - 1;
+        let line = format!(in alloc; "#define A{k} A{before} A{before}\n")?;
         text.push_str(line.as_str())?;
     }
     let line = format!(in alloc; "A{last}\n")?;
