@@ -55,7 +55,7 @@ held_done : (told : Option Held) (plan : Plan) (prep : pp.Prep) (log : Log) → 
 held_done None plan prep log due held e = absurd (let h : None ≡ Some held = e in cc)
 held_done (Some h) plan prep log due held e = ap (λ x. preprocessed x plan.options plan.file) (sym (let same : h ≡ held = cc in same)) ∙ due
 
-pub prepared_reported : (plan : Plan) (prep : pp.Prep) (log : Log) (c : Call) (r : Report) → pp.IsDue c.files.held plan.options plan.file (Ok prep) log → Runs c.files c.files' (unit plan.options plan.file) (Ok {E = PrepError} prep) (pp.with_log log) log → ReportsDone plan.mode (Ok (pp.with_log log prep)) r → ReportsPlan plan c r
+pub prepared_reported : (plan : Plan) (prep : pp.Prep) (log : Log) (c : Call) (r : Report) → pp.IsDue c.files.held plan.options plan.file (Ok prep) log → Runs c.files c.files' (unit plan.options plan.file) (Ok prep) (pp.with_log log) log → ReportsDone plan.mode (Ok (pp.with_log log prep)) r → ReportsPlan plan c r
 prepared_reported plan prep log c r due answered (answer, is, report) =
     inl (answer, due_by c.files.held plan (unit plan.options plan.file) (Ok (pp.with_log log prep)) answer (held_done c.files.held plan prep log due) (reaches_comes c.files c.files' _ _ _ answered refl) is, report)
 

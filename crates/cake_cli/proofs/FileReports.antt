@@ -15,10 +15,10 @@ use Rattle.cake_cli.proofs.DueReports.{prepared_reported, stop_reported}
 abbrev pub Reported : Plan → FilesView → FilesView → Report → Type 0
 Reported plan files files' r = (out out' err err' : SinkView) → ReportsPlan plan (call_of files files' out out' err err') r
 
-pub prepared_is_reported : {E : Type 0} (result : Result Report E) (plan : Plan) (prep : pp.Prep) (log : Log) (files files' : FilesView) → pp.IsDue files.held plan.options plan.file (Ok prep) log → Runs files files' (unit plan.options plan.file) (Ok {E = PrepError} prep) (pp.with_log log) log → IfOk result (ReportsDone plan.mode (Ok (pp.with_log log prep))) → IfOk result (Reported plan files files')
+pub prepared_is_reported : {E : Type 0} (result : Result Report E) (plan : Plan) (prep : pp.Prep) (log : Log) (files files' : FilesView) → pp.IsDue files.held plan.options plan.file (Ok prep) log → Runs files files' (unit plan.options plan.file) (Ok prep) (pp.with_log log) log → IfOk result (ReportsDone plan.mode (Ok (pp.with_log log prep))) → IfOk result (Reported plan files files')
 prepared_is_reported (Ok r) plan prep log files files' due answered report = λ out out' err err'. prepared_reported plan prep log (call_of files files' out out' err err') r due answered report
 prepared_is_reported (Err e) plan prep log files files' due answered report = tt
 
-pub stop_is_reported : {E : Type 0} (result : Result Report E) (plan : Plan) (error : PrepError) (log : Log) (files files' : FilesView) → pp.IsDue files.held plan.options plan.file (Err error) log → pp.FailedRead files files' plan.options plan.file (Err error) log → Runs files files' (unit plan.options plan.file) (Err {T = pp.Prep} error) (pp.with_log log) log → IfOk result (ReportsStop error log) → IfOk result (Reported plan files files')
+pub stop_is_reported : {E : Type 0} (result : Result Report E) (plan : Plan) (error : PrepError) (log : Log) (files files' : FilesView) → pp.IsDue files.held plan.options plan.file (Err error) log → pp.FailedRead files files' plan.options plan.file (Err error) log → Runs files files' (unit plan.options plan.file) (Err error) (pp.with_log log) log → IfOk result (ReportsStop error log) → IfOk result (Reported plan files files')
 stop_is_reported (Ok r) plan error log files files' due failed answered report = λ out out' err err'. stop_reported plan error log (call_of files files' out out' err err') r due failed answered report
 stop_is_reported (Err e) plan error log files files' due failed answered report = tt

@@ -11,3 +11,11 @@ pub mod UniqueVerdict
 pub mod Outcomes
 pub mod Promises
 pub mod FileReports
+pub mod GetLaws
+pub mod ExpandedLaws
+pub mod ReaderLaws
+pub mod MadeReports
+pub mod LineBounds
+pub mod TextLaws
+pub mod Pushes
+pub mod NoteLaws

@@ -1,5 +1,6 @@
 -- How a call comes out, case by case.
-use Rattle.std.proofs.Common.{◌≡◌, ℕ, List, [], Result, Ok, Err, refl, sym, ◌∙◌, subst, inl, inr}
+use Rattle.std.specs.Prelude.{IsOk}
+use Rattle.std.proofs.Common.{◌≡◌, ℕ, true, false, List, [], Result, Ok, Err, refl, sym, ◌∙◌, subst, inl, inr}
 use Rattle.c_model.specs.ReportLines.{usage_line}
 use Rattle.c_model.specs.Words.{Plan}
 use Rattle.c_model.specs.Answer.{Answer, Usage, err_text}
@@ -39,3 +40,8 @@ report_outcome plan p r out_text err_text_ c result e eo ee (inr (file, log, fai
 
 pub memory_outcome : (plan : Result Plan ℕ) (p : Plan) (c : Call) → plan ≡ Ok p → NothingOnOut c → NothingOnErr c → ComesOut plan c status.NoMemory
 memory_outcome plan p c e o r = let any = some_due plan c in (any.0, any.1, no_memory p e refl o r)
+
+-- the same where the words have a reading
+pub memory_comes_out : (plan : Result Plan ℕ) (c : Call) → IsOk plan → NothingOnOut c → NothingOnErr c → ComesOut plan c status.NoMemory
+memory_comes_out (Ok p) c h o r = memory_outcome (Ok p) p c refl o r
+memory_comes_out (Err number) c h o r = absurd (let e : false ≡ true = h in cc)

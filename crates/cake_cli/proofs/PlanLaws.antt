@@ -3,10 +3,13 @@ use Rattle.std.proofs.Common.{◌≡◌, ℕ, suc, ◌+◌, List, [], ◌∷◌,
 use Rattle.std.proofs.lemmas.List.{append-nil}
 use Rattle.std.proofs.Common.{◌<◌, length, get_or, drop, map, subst}
 use Rattle.std.proofs.Math.Seq.{drop-cons}
-use Rattle.std.specs.Prelude.{IsOk}
-use Rattle.c_model.specs.PreprocessedUnit.{Options}
-use Rattle.c_model.specs.Words.{Plan, Meaning, Asks, Defines, Searches, Names, Expects, EndsOptions, Nothing, Met, meaning, is_good, behind, with_option, adds, plan_from}
-use Rattle.cake_cli.specs.WordsRead.{step, Leads, both, prefixed, with_meaning}
+use Rattle.std.specs.Prelude.{IsOk, IfOk}
+use Rattle.c_model.specs.PreprocessedUnit.{Options, command_lines}
+use Rattle.c_model.specs.Words.{Plan, Meaning, Asks, Defines, Searches, Names, Expects, EndsOptions, Nothing, Met, meaning, is_good, behind, with_option, adds, plan_from, plan}
+use Rattle.cake_cli.specs.WordsRead.{step, Leads, both, prefixed, with_meaning, plan_as, Answers}
+use Rattle.cake_cli.specs.declared.words.Plan as code
+use Rattle.cake_cli.specs.declared.words.WordsError.{WordsError}
+use Rattle.cake_cli.proofs.LineBounds.{lines_bounded}
 
 some_none : (p : Meaning × Met) → Some p ≡ None → ⊥
 some_none p e = cc
@@ -79,3 +82,12 @@ prefixed_good o o' met next m number word words rest whole is e added h =
     ∙ sym (prefixed_by m o (plan_from next (number + 1) words))
     ∙ ap (prefixed o) (sym (ap (plan_from met number) is ∙ plan_from-good met number word words m next e))
     ∙ h
+
+-- what a call answers has lines that are short enough
+pub answered_lines : (words : List (List ℕ)) (result : Result code.Plan WordsError) → Answers result (plan words) → IfOk result (λ p. length (command_lines p.options.defines) < 4294967295)
+answered_lines words (Ok p) (file, named, is) = lines_bounded words (plan_as p file) is
+answered_lines words (Err e) is = tt
+
+-- the file of a plan under its other name
+pub named_plan : (whole : Result Plan ℕ) (p : code.Plan) (file name : List ℕ) → p.file ≡ Some file → p.file ≡ Some name → whole ≡ Ok (plan_as p file) → whole ≡ Ok (plan_as p name)
+named_plan whole p file name is as_ e = e ∙ ap (λ f. Ok (plan_as p f)) (let both : Some file ≡ Some name = sym is ∙ as_ in cc)

@@ -423,6 +423,7 @@ front_finishes (suc (suc (suc (suc zero)))) h = front_4
 front_finishes (suc (suc (suc (suc (suc zero))))) h = front_5
 front_finishes (suc (suc (suc (suc (suc (suc zero)))))) h = front_6
 front_finishes (suc (suc (suc (suc (suc (suc (suc n))))))) h = absurd (omega (arith, h))
+
 holds_finishes : (stage : Stage) (ts : List CTok) → Holds stage ts → Finishes stage
 holds_finishes (Front count) ts holds = front_finishes count holds.1
 holds_finishes (Operand here outer) ts holds = operand_finishes here outer

@@ -57,6 +57,10 @@ front_rank Other = 7
 abbrev pub past_word : ℕ → Stage
 past_word count = if count == 6 then Operand nothing_open [] else Front (count + 1)
 
+-- where a word of the front is wanted
+abbrev pub past_front : ℕ → Sort → Option Stage
+past_front count sort = if front_rank sort == count then Some (past_word count) else None
+
 -- behind an operator
 abbrev pub past_product : Place → Expr → Open → Open
 past_product place operand here = record { sum = here.sum; product = Some (record { op = Mul; left = joined here.product operand; place = place }) }
@@ -125,7 +129,7 @@ past_tail Other value = None
 
 -- behind one more token, where the unit can go on with it
 abbrev pub read_sort : Stage → Sort → Place → Option Stage
-read_sort (Front count) sort place = if front_rank sort == count then Some (past_word count) else None
+read_sort (Front count) sort place = past_front count sort
 read_sort (Operand here outer) sort place = past_begin sort place here outer
 read_sort (Operator operand here outer) sort place = past_operand sort place operand here outer
 read_sort (Tail value) sort place = past_tail sort value

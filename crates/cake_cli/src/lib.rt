@@ -13,6 +13,8 @@ mod report_lines;
 mod sorts;
 mod spelling;
 mod status;
+#[cfg(test)]
+mod tests;
 mod texts;
 mod words;
 

@@ -1,10 +1,8 @@
 //! The unit `int main(void) { return E; }`, read token by token from the left.
 ghost use Rattle.std.specs.Prelude.{◌≡◌, ◌≤◌, IfOk};
-ghost use Rattle.cake_base.specs.declared.places.Place.{Place};
 ghost use Rattle.cake_cli.specs.SortViews.{sort_view};
 ghost use Rattle.cake_cli.specs.Views.{expr_of, open_of, opens_of, stage_of, stage_option, reading_of};
-ghost use Rattle.cake_cli.specs.Reader.{front_rank, past_sign, past_close, past_end, past_operand, past_begin, past_tail, read_sort, read_token, read_unit};
-ghost use Rattle.cake_cli.specs.Reader as reader;
+ghost use Rattle.cake_cli.specs.Reader.{front_rank, past_sign, past_close, past_end, past_operand, past_begin, past_tail, past_front, read_token, read_unit};
 
 use crate::expression::{Expr, NOTHING_OPEN, Open, Waiting, close, join};
 use crate::sorts::{Sort, sort_of};
@@ -193,7 +191,7 @@ fn past_tail(sort: Sort, value: Expr) -> Option<Stage>
 }
 
 fn past_word(alloc: Global, count: usize, sort: Sort) -> Option<Stage>
-    ensures { (place : Place) → stage_option result ≡ read_sort (reader.Front count) (sort_view sort) place }
+    ensures { stage_option result ≡ past_front count (sort_view sort) }
 {
     if front_rank(sort) != count {
         None
@@ -227,7 +225,7 @@ pub fn read_unit(alloc: Global, tokens: &CList, end: Place) -> Result<Reading, N
     let mut stage = Stage::Front(0);
     for at in 0..tokens.count() {
         let Some(token) = tokens.get(at) else {
-            break;
+            unreachable!();
         };
         if at == MAX_TOKENS {
             return Ok(Reading::Stops(token.place));

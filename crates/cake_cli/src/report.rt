@@ -127,12 +127,7 @@ fn report_tokens(
 }
 
 /// The report on a unit that is preprocessed, where its tokens are read.
-fn report_unit(
-    alloc: Global,
-    mode: Mode,
-    log: &PrepLog,
-    prep: &Prep,
-) -> Result<Report, NoMemory>
+fn report_unit(alloc: Global, mode: Mode, log: &PrepLog, prep: &Prep) -> Result<Report, NoMemory>
     ensures { IfOk result (ReportsUnit mode log.now (with_log log.now prep.now)) }
 {
     match convert_tokens(alloc, prep.tokens()) {

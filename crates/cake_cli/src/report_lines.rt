@@ -108,7 +108,7 @@ pub fn push_notes(out: &mut Bytes, log: &PrepLog) -> Result<(), NoMemory>
     let notes = log.notes();
     for at in 0..notes.count() {
         let Some(note) = notes.get(at) else {
-            break;
+            unreachable!();
         };
         push_note(out, log, note)?;
     }

@@ -1,6 +1,6 @@
 //! The texts of the rules and of the limits.
 ghost use Rattle.std.specs.Prelude.{◌≡◌, map};
-ghost use Rattle.c_model.specs.RuleTexts as texts;
+ghost use Rattle.c_model.specs.RuleTexts as spec;
 
 use cake_base::{Family, Limit, Rule};
 
@@ -38,9 +38,7 @@ const TOKEN_TEXTS: [&str; 8] = [
     "prefixed literal or stray character",
 ];
 
-const SYNTAX_TEXTS: [&str; 1] = [
-    "syntax error",
-];
+const SYNTAX_TEXTS: [&str; 1] = ["syntax error"];
 
 const CONSTRAINT_TEXTS: [&str; 48] = [
     "name begins with cake_",
@@ -133,7 +131,7 @@ const LIMIT_TEXTS: [&str; 8] = [
 
 /// The text of a number, counted from 1; the empty text where there is none.
 fn numbered(texts: &[&'static str], number: u32) -> &'static str
-    ensures { result.now ≡ texts.numbered_text (map (λ t. t.now) texts.now) number }
+    ensures { result.now ≡ spec.numbered_text (map (λ t. t.now) texts.now) number }
 {
     match number.checked_sub(1) {
         None => "",
@@ -146,7 +144,7 @@ fn numbered(texts: &[&'static str], number: u32) -> &'static str
 
 /// The text of a rule; the empty text where the family has no rule of that number.
 pub fn rule_text(rule: Rule) -> &'static str
-    ensures { result.now ≡ texts.rule_text rule }
+    ensures { result.now ≡ spec.rule_text rule }
 {
     match rule.family {
         Family::P => numbered(&PREPROCESSING_TEXTS, rule.number),
@@ -160,7 +158,7 @@ pub fn rule_text(rule: Rule) -> &'static str
 
 /// The text of a limit; the empty text where there is no limit of that number.
 pub fn limit_text(limit: Limit) -> &'static str
-    ensures { result.now ≡ texts.limit_text limit }
+    ensures { result.now ≡ spec.limit_text limit }
 {
     numbered(&LIMIT_TEXTS, limit.number)
 }

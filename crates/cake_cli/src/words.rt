@@ -1,5 +1,6 @@
 //! The words of the command.
-ghost use Rattle.std.specs.Prelude.{◌≡◌, map, string_bytes, IfOk, IfErr, OnOk, IsOk, Err};
+ghost use Rattle.std.specs.Prelude.{◌≡◌, ◌<◌, map, length, string_bytes, IfOk, IfErr, OnOk, IsOk, Err};
+ghost use Rattle.c_model.specs.PreprocessedUnit.{command_lines};
 ghost use Rattle.c_model.specs.Words.{plan};
 ghost use Rattle.c_model.specs.ReportLines.{usage_line};
 ghost use Rattle.cake_cli.specs.WordsRead.{meaning_of, with_meaning, Answers, IsMemory};
@@ -105,6 +106,7 @@ fn take_words(alloc: Global, words: &[String]) -> Result<Plan, WordsError>
 pub fn read_words(alloc: Global, words: &[String]) -> Result<Plan, WordsError>
     ensures answer { Answers result (plan (map string_bytes words.now)) }
     ensures memory { IfErr result (λ e. IsMemory e → IsOk (plan (map string_bytes words.now))) }
+    ensures lines { IfOk result (λ p. length (command_lines p.options.defines) < 4294967295) }
 {
     match test_words(words) {
         Ok(()) => take_words(alloc, words),

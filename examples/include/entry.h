@@ -1,0 +1,2 @@
+int ENTRY (void);
+#undef ENTRY

@@ -1,0 +1,3 @@
+#pragma once
+struct point { int x, y; };
+#define ORIGIN { 0, 0 }
