@@ -1,5 +1,5 @@
 -- What each production makes of its symbols is of the sort of its nonterminal.
-use Rattle.std.specs.Prelude.{ℕ, List, [], ◌∷◌, Some, None}
+use Rattle.std.specs.Prelude.{◌≡◌, refl, ℕ, List, [], ◌∷◌, Some, None}
 use Rattle.cake_base.specs.declared.places.Place.{Place}
 use Rattle.c_model.specs.declared.syntax.Name.{Name}
 use Rattle.c_model.specs.declared.tokens.CKind.{CKind}
@@ -10,7 +10,7 @@ use Rattle.c_model.specs.declared.grammar.Rule.TheVariants as r
 use Rattle.c_model.specs.Grammar.{grammar}
 use Rattle.c_model.specs.GrammarForm.{rule, many}
 use Rattle.c_tree.specs.SyntaxSorts.{AssertionSort, BlockItemSort, BlockSort, BracesSort, DeclarationSort, DeclaratorSort, DesignatorSort, EnumeratorSort, ExprSort, ExternalSort, InitDeclaratorSort, InitializerSort, ItemSort, MemberSort, ParameterSort, QualifierSort, SpecSort, SpecsSort, StatementSort, SuffixSort, TypeNameSort, Sorted, sorted_nothing, sorted_expr, sorted_typename, sorted_spec, sorted_qualifier, sorted_specs, sorted_members, sorted_member, sorted_enumerator, sorted_declarator, sorted_suffix, sorted_parameters, sorted_parameter, sorted_initializer, sorted_braces, sorted_item, sorted_designator, sorted_declaration, sorted_initdeclarator, sorted_assertion, sorted_statement, sorted_blockitem, sorted_block, sorted_external, sorted_unit, sort_of}
-use Rattle.c_tree.proofs.SyntaxShapes.{Added, no_more, more_expr, more_typename, more_spec, more_qualifier, more_specs, more_members, more_enumerator, more_declarator, more_suffix, more_parameters, more_initializer, more_braces, more_designator, more_declaration, more_assertion, more_statement, more_block, more_external, Shape, of_word, of_rule, of_both, of_left, of_right, of_none, of_one, of_end, of_turn, of_first, of_second}
+use Rattle.c_tree.proofs.SyntaxShapes.{Added, no_more, more_expr, more_typename, more_spec, more_qualifier, more_specs, more_members, more_enumerator, more_declarator, more_suffix, more_parameters, more_initializer, more_braces, more_designator, more_declaration, more_assertion, more_statement, more_block, more_external, Shape, of_word, of_rule, of_both, of_left, of_right, of_none, of_one, of_nothing, of_end, of_turn, of_first, of_second}
 use Rattle.c_model.specs.SyntaxValues.{Meaning, a_token, an_initializer}
 use Rattle.c_model.specs.SyntaxExprActions as e
 use Rattle.c_model.specs.SyntaxDeclarationActions as d
@@ -124,12 +124,17 @@ unfolding grammar
 enumerator_sorted (of_both (of_word _ _ _) (of_both (of_rule no_more) of_none)) = sorted_enumerator _
 enumerator_sorted (of_both (of_word _ _ _) (of_both (of_rule no_more) (of_one (of_both (of_word _ _ _) (of_rule (more_expr _)))))) = sorted_enumerator _
 
+-- attributes add nothing
+attributes_added : {ms others : List Meaning} → Shape (many (rule r.Attr)) ms others → ms ≡ others
+attributes_added of_end = refl
+attributes_added (of_turn (of_rule no_more) rest) = attributes_added rest
+
 suffix_sorted : {ms : List Meaning} → Shape (grammar r.Suffix) ms [] → Sorted SuffixSort (d.suffix ms)
 unfolding grammar
-suffix_sorted (of_left (of_both (of_word _ _ _) (of_both of_none (of_both (of_word _ _ _) (of_rule no_more))))) = sorted_suffix _
-suffix_sorted (of_left (of_both (of_word _ _ _) (of_both (of_one (of_rule (more_expr _))) (of_both (of_word _ _ _) (of_rule no_more))))) = sorted_suffix _
-suffix_sorted (of_right (of_both (of_word _ _ _) (of_both of_none (of_both (of_word _ _ _) (of_rule no_more))))) = sorted_suffix _
-suffix_sorted (of_right (of_both (of_word _ _ _) (of_both (of_one (of_rule (more_parameters _))) (of_both (of_word _ _ _) (of_rule no_more))))) = sorted_suffix _
+suffix_sorted (of_left (of_both (of_word _ _ _) (of_both of_none (of_both (of_word _ _ _) rest)))) = rw (attributes_added rest) (sorted_suffix _)
+suffix_sorted (of_left (of_both (of_word _ _ _) (of_both (of_one (of_rule (more_expr _))) (of_both (of_word _ _ _) rest)))) = rw (attributes_added rest) (sorted_suffix _)
+suffix_sorted (of_right (of_both (of_word _ _ _) (of_both of_none (of_both (of_word _ _ _) rest)))) = rw (attributes_added rest) (sorted_suffix _)
+suffix_sorted (of_right (of_both (of_word _ _ _) (of_both (of_one (of_rule (more_parameters _))) (of_both (of_word _ _ _) rest)))) = rw (attributes_added rest) (sorted_suffix _)
 
 type_name_sorted : {ms : List Meaning} → Shape (grammar r.Typename) ms [] → Sorted TypeNameSort (d.type_name ms)
 unfolding grammar
@@ -236,10 +241,10 @@ statement_sorted span (of_both (of_rule no_more) (of_right (of_right (of_right (
 
 if_sorted : {ms : List Meaning} (span : Span) → Shape (grammar r.If) ms [] → Sorted StatementSort (s.if_statement span ms)
 unfolding grammar
-if_sorted span (of_both (of_word _ _ _) (of_both (of_word _ _ _) (of_both of_none (of_both (of_rule (more_expr _)) (of_both (of_word _ _ _) (of_both (of_rule (more_statement _)) of_none)))))) = sorted_statement _
-if_sorted span (of_both (of_word _ _ _) (of_both (of_word _ _ _) (of_both of_none (of_both (of_rule (more_expr _)) (of_both (of_word _ _ _) (of_both (of_rule (more_statement _)) (of_one (of_both (of_word _ _ _) (of_rule (more_statement _)))))))))) = sorted_statement _
-if_sorted span (of_both (of_word _ _ _) (of_both (of_word _ _ _) (of_both (of_one (of_rule (more_declaration _))) (of_both (of_rule (more_expr _)) (of_both (of_word _ _ _) (of_both (of_rule (more_statement _)) of_none)))))) = sorted_statement _
-if_sorted span (of_both (of_word _ _ _) (of_both (of_word _ _ _) (of_both (of_one (of_rule (more_declaration _))) (of_both (of_rule (more_expr _)) (of_both (of_word _ _ _) (of_both (of_rule (more_statement _)) (of_one (of_both (of_word _ _ _) (of_rule (more_statement _)))))))))) = sorted_statement _
+if_sorted span (of_both (of_word _ _ _) (of_both (of_word _ _ _) (of_both of_none (of_both (of_rule (more_expr _)) (of_both (of_word _ _ _) (of_both (of_rule (more_statement _)) (of_second of_nothing))))))) = sorted_statement _
+if_sorted span (of_both (of_word _ _ _) (of_both (of_word _ _ _) (of_both of_none (of_both (of_rule (more_expr _)) (of_both (of_word _ _ _) (of_both (of_rule (more_statement _)) (of_first (of_both (of_word _ _ _) (of_rule (more_statement _)))))))))) = sorted_statement _
+if_sorted span (of_both (of_word _ _ _) (of_both (of_word _ _ _) (of_both (of_one (of_rule (more_declaration _))) (of_both (of_rule (more_expr _)) (of_both (of_word _ _ _) (of_both (of_rule (more_statement _)) (of_second of_nothing))))))) = sorted_statement _
+if_sorted span (of_both (of_word _ _ _) (of_both (of_word _ _ _) (of_both (of_one (of_rule (more_declaration _))) (of_both (of_rule (more_expr _)) (of_both (of_word _ _ _) (of_both (of_rule (more_statement _)) (of_first (of_both (of_word _ _ _) (of_rule (more_statement _)))))))))) = sorted_statement _
 
 for_sorted : {ms : List Meaning} (span : Span) → Shape (grammar r.For) ms [] → Sorted StatementSort (s.for_statement span ms)
 unfolding grammar
@@ -276,7 +281,7 @@ direct_behind kind content place (of_turn (of_rule (more_suffix x)) rest) = sort
 
 direct_sorted : {ms : List Meaning} → Shape (grammar r.Direct) ms [] → Sorted DeclaratorSort (d.direct ms)
 unfolding grammar
-direct_sorted (of_both (of_left (of_both (of_word k c p) (of_rule no_more))) rest) = direct_behind k c p rest
+direct_sorted (of_both (of_left (of_both (of_word k c p) attributes)) rest) = rw (attributes_added attributes) (direct_behind k c p rest)
 direct_sorted (of_both (of_right (of_both (of_word _ _ _) (of_both (of_rule (more_declarator _)) (of_word _ _ _)))) rest) = sorted_declarator _
 
 adirect_sorted : {ms : List Meaning} → Shape (grammar r.Adirect) ms [] → Sorted DeclaratorSort (d.direct ms)
