@@ -74,10 +74,11 @@ length_set (t ∷ ts) (suc i) a = ap suc (length_set ts i a)
 -- one more declaration, which the table tells, and keeps what it hides
 pub one_more : (types : List Bool) (ks : List Kept) (k : Kept) → Tells types (reverse ks) → k.entry.name < length types → k.hidden ≡ type_at types k.entry.name → Tells (set types k.entry.name k.entry.is_type) (reverse (ks ++ k ∷ []))
 one_more types ks k h r e =
-    subst (λ z. Tells (set types k.entry.name k.entry.is_type) z) (sym (reverse-append ks (k ∷ [])))
-      (subst (λ z. k.entry.name < z) (sym (length_set types k.entry.name k.entry.is_type)) r,
-       get_or-set_same types k.entry.name k.entry.is_type false r,
-       subst (λ z. Tells z (reverse ks)) (sym (set_twice types k.entry.name k.entry.is_type k.hidden ∙ ap (set types k.entry.name) e ∙ set-get_or types k.entry.name false)) h)
+    subst (λ z. Tells (set types k.entry.name k.entry.is_type) z) (sym (reverse-append ks (k ∷ []))) (
+      subst (λ z. k.entry.name < z) (sym (length_set types k.entry.name k.entry.is_type)) r,
+      get_or-set_same types k.entry.name k.entry.is_type false r,
+      subst (λ z. Tells z (reverse ks)) (sym (set_twice types k.entry.name k.entry.is_type k.hidden ∙ ap (set types k.entry.name) e ∙ set-get_or types k.entry.name false)) h,
+    )
 
 -- without the latest declaration the table tells what it hid
 pub one_less : (types : List Bool) (ks : List Kept) (k : Kept) → Tells types (reverse (ks ++ k ∷ [])) → (k.entry.name < length types) × Tells (set types k.entry.name k.hidden) (reverse ks)

@@ -5,9 +5,6 @@ use Rattle.std.specs.Str.{bytes_eq}
 use Rattle.indexmap.specs.IndexMap.{insert_entry}
 use Rattle.c_parser.specs.Ranks.{Spelled, ranked, known_or, with_spelling}
 
-
-
-
 pub ranked_lookup : {K : Type 0} (text : K → List ℕ) (spelling : List ℕ) (es : List (K × ℕ)) → lookup_by (λ q. bytes_eq spelling (text q)) es ≡ ranked spelling (map (λ e. (text e.0, e.1)) es)
 ranked_lookup text spelling [] = refl
 ranked_lookup text spelling (e ∷ es) = ap (λ o. cond (bytes_eq spelling (text e.0)) (Some e.1) o) (ranked_lookup text spelling es)

@@ -97,6 +97,7 @@ added seen name spelling n = by (ranked name seen) refl
     known : (first : ℕ) (b : Bool) → ranked name seen ≡ Some first → bytes_eq name spelling ≡ b → ranked spelling seen ≡ or_first (ranked spelling seen) b n
     known first false e s = not_spelled (ranked spelling seen) n
     known first true e s = let q : ranked spelling seen ≡ Some first = ap (λ z. ranked z seen) (sym ((bytes_eq-Decides name spelling).0 s)) ∙ e in q ∙ ap (λ o. or_first o true n) (sym q)
+
     by : (o : Option ℕ) → ranked name seen ≡ o → ranked spelling (with_spelling (ranked name seen) name n seen) ≡ or_first (ranked spelling seen) (bytes_eq name spelling) n
     by None e = ap (λ o. ranked spelling (with_spelling o name n seen)) e ∙ ranked_end spelling seen name n ∙ ap (λ b. or_first (ranked spelling seen) b n) (either_way spelling name)
     by (Some first) e = ap (λ o. ranked spelling (with_spelling o name n seen)) e ∙ known first (bytes_eq name spelling) e refl

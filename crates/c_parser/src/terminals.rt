@@ -29,11 +29,7 @@ fn kind_number(kind: &CKind) -> Option<u8>
 }
 
 /// The number of an identifier, which is the rank of the first token of its spelling, and 0 for another token.
-fn name_number<'a>(
-    ranks: &mut Ranks<'a>,
-    kind: &'a CKind,
-    rank: usize,
-) -> Result<u32, NoMemory>
+fn name_number<'a>(ranks: &mut Ranks<'a>, kind: &'a CKind, rank: usize) -> Result<u32, NoMemory>
     ensures number { IfOk result (λ n. n ≡ number_behind ranks.old rank kind.now) }
     ensures kept { IfOk result (λ n. ranks.new ≡ with_kind ranks.old rank kind.now) }
 {
@@ -50,11 +46,7 @@ fn name_number<'a>(
 }
 
 /// The token of this rank as the grammar sees it, behind tokens with these spellings.
-fn terminal<'a>(
-    ranks: &mut Ranks<'a>,
-    token: &'a CTok,
-    rank: usize,
-) -> Result<Terminal, NoMemory>
+fn terminal<'a>(ranks: &mut Ranks<'a>, token: &'a CTok, rank: usize) -> Result<Terminal, NoMemory>
     ensures terminal { IfOk result (λ t. t ≡ record { kind = spec.kind_number token.now.kind; name = number_behind ranks.old rank token.now.kind; rank = rank }) }
     ensures kept { IfOk result (λ t. ranks.new ≡ with_kind ranks.old rank token.now.kind) }
 {

@@ -68,11 +68,51 @@ fn faults_of_the_command(rt: HostRuntime) -> Result<(), Fail> {
 #[test]
 fn nested_parts(rt: HostRuntime) -> Result<(), Fail> {
     let rows = [
-        (Nested { before: "int main(void) { return ", part: "(", times: 2000, after: "0" }, 224),
-        (Nested { before: "int main(void) { return ", part: "(", times: 199, after: "0" }, 0),
-        (Nested { before: "int main(void) ", part: "{", times: 2000, after: "" }, 516),
-        (Nested { before: "int x = ", part: "{", times: 2000, after: "" }, 1009),
-        (Nested { before: "int ", part: "(", times: 2000, after: "x;" }, 1005),
+        (
+            Nested {
+                before: "int main(void) { return ",
+                part: "(",
+                times: 2000,
+                after: "0",
+            },
+            224,
+        ),
+        (
+            Nested {
+                before: "int main(void) { return ",
+                part: "(",
+                times: 199,
+                after: "0",
+            },
+            0,
+        ),
+        (
+            Nested {
+                before: "int main(void) ",
+                part: "{",
+                times: 2000,
+                after: "",
+            },
+            516,
+        ),
+        (
+            Nested {
+                before: "int x = ",
+                part: "{",
+                times: 2000,
+                after: "",
+            },
+            1009,
+        ),
+        (
+            Nested {
+                before: "int ",
+                part: "(",
+                times: 2000,
+                after: "x;",
+            },
+            1005,
+        ),
     ];
     for (nested, column) in rows {
         assert_eq!(rt; limit_column(rt.alloc(), &nested)?, column);
@@ -83,11 +123,36 @@ fn nested_parts(rt: HostRuntime) -> Result<(), Fail> {
 #[test]
 fn long_lists(rt: HostRuntime) -> Result<(), Fail> {
     let rows = [
-        Nested { before: "void f(void) { ", part: "x;", times: 100_000, after: "}" },
-        Nested { before: "int a[] = { ", part: "1,", times: 60_000, after: "};" },
-        Nested { before: "int x", part: ", x", times: 10_000, after: ";" },
-        Nested { before: "typedef int T; ", part: "T x;", times: 50_000, after: "" },
-        Nested { before: "void f(void) { ", part: "{ typedef int T; T x; }", times: 10_000, after: "}" },
+        Nested {
+            before: "void f(void) { ",
+            part: "x;",
+            times: 100_000,
+            after: "}",
+        },
+        Nested {
+            before: "int a[] = { ",
+            part: "1,",
+            times: 60_000,
+            after: "};",
+        },
+        Nested {
+            before: "int x",
+            part: ", x",
+            times: 10_000,
+            after: ";",
+        },
+        Nested {
+            before: "typedef int T; ",
+            part: "T x;",
+            times: 50_000,
+            after: "",
+        },
+        Nested {
+            before: "void f(void) { ",
+            part: "{ typedef int T; T x; }",
+            times: 10_000,
+            after: "}",
+        },
     ];
     for nested in rows {
         let text = text(rt.alloc(), &nested)?;
