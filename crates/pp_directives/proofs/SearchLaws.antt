@@ -1,11 +1,14 @@
 -- The steps of the search for a file.
-use Rattle.std.proofs.Common.{◌≡◌, ℕ, suc, ◌+◌, ◌≤◌, Bool, true, false, List, [], ◌∷◌, ◌++◌, length, drop, slice_get, Option, Some, None, Result, Ok, Err, refl, ap, sym, ◌∙◌, subst, cond, arith}
+use Rattle.std.proofs.Common.{◌≡◌, ℕ, suc, ◌+◌, ◌≤◌, Bool, true, false, List, [], ◌∷◌, ◌++◌, length, map, drop, slice_get, slice_index, ◌==◌, Option, Some, None, Result, Ok, Err, refl, ap, sym, ◌∙◌, subst, cond, arith}
 use Rattle.std.specs.Str.{is_utf8}
+use Rattle.std.proofs.lemmas.List.{length-append, length-map}
+use Rattle.std.proofs.lemmas.Option.{slice_get_past}
 use Rattle.cake_base.specs.declared.places.Place.{Place}
 use Rattle.cake_base.specs.Counts.{Rose}
 use Rattle.cake_base.specs.Outside.{FilesView, ReadKeeps, StandsUnder, max_file}
 use Rattle.c_model.specs.declared.directives.ReadCause.{ReadCause}
 use Rattle.c_model.specs.declared.directives.ReadCause.TheVariants as cause
+use Rattle.c_model.specs.Includes.{HeaderName, candidates, beside, directory, within, SLASH}
 use Rattle.c_model.specs.Processes.{ReadAnswer, NotHeld, Contents, TooLarge, Failed, unread, Log, Process, gives, refuses, asks}
 use Rattle.c_model.specs.Sources.{State, number_of, next_file, named}
 use Rattle.c_model.specs.FileSearch.{Found, taken, read_file, looked_up, searched, built_in_header}
@@ -17,7 +20,7 @@ use Rattle.pp_directives.specs.Reads.{Asked, Answers, Reads, ReadsKeep, After, R
 use Rattle.pp_directives.specs.Outcomes.{halted, Halts, Does, FailsRead, StopsUnread, Stops, Runs}
 use Rattle.pp_directives.specs.Looks.{Looks, Unread}
 use Rattle.pp_directives.proofs.StateLaws.{at_rank-plus, past_end}
-use Rattle.pp_directives.proofs.ReadLaws.{reaches-self, reaches-more, stops-after, does-runs}
+use Rattle.pp_directives.proofs.ReadLaws.{reaches-self, reaches-more, stops-after, runs-after, does-runs}
 
 -- ---- one read
 
@@ -100,3 +103,62 @@ next-name at name fulls n full s here = ap (λ z. searched at name z s) (at_rank
 pub no-name : (at : Place) (name : List ℕ) (fulls : List (List ℕ)) (n : ℕ) (s : State) → slice_get fulls n ≡ None →
     searched at name (drop n fulls) s ≡ built_in_header at name s (number_of name s.built_in)
 no-name at name fulls n s none = ap (λ z. searched at name z s) (past_end fulls n none)
+
+-- what the search for one name gives, for the whole search
+module _ (a b c : FilesView) (at : Place) (name : List ℕ) (fulls : List (List ℕ)) (s u : State) (n : ℕ) (full : List ℕ) where
+  up_to : Reaches a b (searched at name fulls s) (searched at name (drop n fulls) s) → u ≡ s → slice_get fulls n ≡ Some full →
+      Reaches a b (searched at name fulls s) (looked_up at full u (searched at name (drop (n + 1) fulls) s) (number_of full u.held))
+  up_to reached same here =
+      reaches-more a b b _ (searched at name (drop n fulls) s) _ reached
+      (reaches-self b _ _ (next-name at name fulls n full s here ∙ ap (λ z. looked_up at full z (searched at name (drop (n + 1) fulls) s) (number_of full z.held)) (sym same)))
+
+  pub held-stops : (u' : State) (e : PrepError) → Reaches a b (searched at name fulls s) (searched at name (drop n fulls) s) → u ≡ s → slice_get fulls n ≡ Some full →
+      ((onward : Process Found) → Stops b c (looked_up at full u onward (number_of full u.held)) e u'.log) → Stops a c (searched at name fulls s) e u'.log
+  held-stops u' e reached same here h =
+      stops-after a b c _ (looked_up at full u (searched at name (drop (n + 1) fulls) s) (number_of full u.held)) e u'.log (up_to reached same here) (h (searched at name (drop (n + 1) fulls) s))
+
+  pub held-found : (u' : State) (file : Option ℕ) → Reaches a b (searched at name fulls s) (searched at name (drop n fulls) s) → u ≡ s → slice_get fulls n ≡ Some full →
+      ((onward : Process Found) → Reaches b c (looked_up at full u onward (number_of full u.held)) (gives (file, u'))) → Reaches a c (searched at name fulls s) (gives (file, u'))
+  held-found u' file reached same here h =
+      reaches-more a b c _ (looked_up at full u (searched at name (drop (n + 1) fulls) s) (number_of full u.held)) _ (up_to reached same here) (h (searched at name (drop (n + 1) fulls) s))
+
+  pub held-next : (u' : State) → Reaches a b (searched at name fulls s) (searched at name (drop n fulls) s) → u ≡ s → slice_get fulls n ≡ Some full →
+      ((onward : Process Found) → Reaches b c (looked_up at full u onward (number_of full u.held)) onward) → Reaches a c (searched at name fulls s) (searched at name (drop (n + 1) fulls) s)
+  held-next u' reached same here h =
+      reaches-more a b c _ (looked_up at full u (searched at name (drop (n + 1) fulls) s) (number_of full u.held)) _ (up_to reached same here) (h (searched at name (drop (n + 1) fulls) s))
+
+  pub held-absent : Reaches a b (searched at name fulls s) (searched at name (drop n fulls) s) → slice_get fulls n ≡ None →
+      Reaches a b (searched at name fulls s) (built_in_header at name s (number_of name s.built_in))
+  held-absent reached none = reaches-more a b b _ (searched at name (drop n fulls) s) _ reached (reaches-self b _ _ (no-name at name fulls n s none))
+
+-- ---- how many names there are
+
+front : (b : Bool) (x : List ℕ) → length (cond b (x ∷ []) []) ≤ 1
+front true x = omega arith
+front false x = omega arith
+
+some_first : (b : Bool) (one : List ℕ) (all : List (List ℕ)) (n : ℕ) → length all ≤ n + 1 → length (cond b (one ∷ []) all) ≤ n + 1
+some_first true one all n h = omega arith
+some_first false one all n h = h
+
+few-names : (including : List ℕ) (dirs : List (List ℕ)) (h : HeaderName) → length (candidates including dirs h) ≤ length dirs + 1
+few-names including dirs h =
+    let one = front h.quoted (beside (directory including) h.name) in
+    let rest = length-map dirs (λ dir. within dir h.name) in
+    let both = length-append (cond h.quoted (beside (directory including) h.name ∷ []) []) (map (λ dir. within dir h.name) dirs) in
+    some_first (slice_index h.name 0 == SLASH) h.name _ (length dirs) (omega (arith, one, rest, both))
+
+pub past-names : (including : List ℕ) (dirs : List (List ℕ)) (h : HeaderName) (n : ℕ) → length dirs + 1 ≤ n → slice_get (candidates including dirs h) n ≡ None
+past-names including dirs h n past = let few = few-names including dirs h in slice_get_past (candidates including dirs h) n (omega (arith, few))
+
+pub memory-stops : {A : Type 0} (a b : FilesView) (p q : Process A) → Reaches a b p q → (n : ℕ) × ReadsKeep a n b
+memory-stops a b p q reached = stops-after a b b p q prep_error.NoMemory (record { names = []; notes = [] }) reached (0, refl)
+
+pub found-built-in : (a b : FilesView) (at : Place) (name key : List ℕ) (p : Process Found) (s u u' : State) (r : Result (Option ℕ) PrepError) →
+    Reaches a b p (built_in_header at name s (number_of name s.built_in)) → u ≡ s → key ≡ name → Does (built_in_header at key u (number_of key u.built_in)) r (λ file. (file, u')) u'.log →
+    Runs a b p r (λ file. (file, u')) u'.log
+found-built-in a b at name key p s u u' r reached same named h =
+    let there : Does (built_in_header at name s (number_of name s.built_in)) r (λ file. (file, u')) u'.log =
+    subst (λ z. Does (built_in_header at name z (number_of name z.built_in)) r (λ file. (file, u')) u'.log) same
+    (subst (λ k. Does (built_in_header at k u (number_of k u.built_in)) r (λ file. (file, u')) u'.log) named h) in
+    runs-after a b b p (built_in_header at name s (number_of name s.built_in)) r (λ file. (file, u')) u'.log reached (does-runs b _ r (λ file. (file, u')) u'.log there)

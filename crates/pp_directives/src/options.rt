@@ -1,5 +1,5 @@
 //! What the command sets before the first line.
-ghost use Rattle.std.specs.Prelude.{◌≡◌, [], ◌∷◌, ◌++◌, length, map, slice_get, option_copied, OnOk, OnErr};
+ghost use Rattle.std.specs.Prelude.{◌≡◌, ◌<◌, ◌^◌, [], ◌∷◌, ◌++◌, length, map, slice_get, option_copied, OnOk, OnErr};
 ghost use Rattle.std.specs.Option.{option_map};
 
 use cake_base::{Bytes, FileName, NoMemory};
@@ -70,7 +70,8 @@ impl Options {
 
     /// The number of macros.
     pub fn define_count(&self) -> usize
-        ensures { result ≡ length self.now.defines }
+        ensures value { result ≡ length self.now.defines }
+        ensures bound { result < 2 ^ 63 }
     {
         self.defines.len()
     }
@@ -98,7 +99,8 @@ impl Options {
 
     /// The number of directories.
     pub fn dir_count(&self) -> usize
-        ensures { result ≡ length self.now.dirs }
+        ensures value { result ≡ length self.now.dirs }
+        ensures bound { result < 2 ^ 63 }
     {
         self.dirs.len()
     }

@@ -1,5 +1,5 @@
 //! The search for a file to be included.
-ghost use Rattle.std.specs.Prelude.{◌≡◌, drop, length, slice_get, None, IfOk};
+ghost use Rattle.std.specs.Prelude.{◌≡◌, slice_get, None, IfOk};
 ghost use Rattle.c_model.specs.FileSearch as spec;
 ghost use Rattle.c_model.specs.Included as included;
 ghost use Rattle.c_model.specs.Sources.{number_of};
@@ -93,6 +93,31 @@ fn full_name(
     candidate(alloc, options, name_of(unit, file), header, rank)
 }
 
+/// Looks for the file under each of its full names.
+fn find_held<F: Files>(
+    alloc: Global,
+    files: &mut F,
+    options: &Options,
+    unit: &mut Unit,
+    file: u32,
+    at: Place,
+    header: &HeaderName,
+) -> Result<Looked, PrepError>
+    ensures { let fulls = included.all_candidates options.now.dirs file header.now unit.old in
+        Looks (F.shows files.old) (F.shows files.new) (spec.searched at header.now.name fulls unit.old) (spec.built_in_header at header.now.name unit.old (number_of header.now.name unit.old.built_in)) result unit.old unit.new }
+{
+    for rank in 0..options.dir_count() + 1 {
+        let Some(full) = full_name(alloc, options, unit, file, header, rank)? else {
+            return Ok(Looked::Absent);
+        };
+        match look_up(alloc, files, unit, at, full.as_slice())? {
+            Looked::Found(found) => return Ok(Looked::Found(found)),
+            Looked::Absent => {}
+        }
+    }
+    Ok(Looked::Absent)
+}
+
 /// Looks for the file that a directive in the file of this number names (ISO/IEC 9899:2024, 6.10.3),
 /// and gives the number of the file whose lines stand in place of the directive, if any do.
 pub fn find<F: Files>(
@@ -106,12 +131,8 @@ pub fn find<F: Files>(
 ) -> Result<Option<u32>, PrepError>
     ensures { Runs (F.shows files.old) (F.shows files.new) (spec.searched at header.now.name (included.all_candidates options.now.dirs file header.now unit.old) unit.old) result (λ found. (found, unit.new)) unit.new.log }
 {
-    let mut rank = 0;
-    while let Some(full) = full_name(alloc, options, unit, file, header, rank)? {
-        match look_up(alloc, files, unit, at, full.as_slice())? {
-            Looked::Found(found) => return Ok(found),
-            Looked::Absent => rank += 1,
-        }
+    match find_held(alloc, files, options, unit, file, at, header)? {
+        Looked::Found(found) => Ok(found),
+        Looked::Absent => find_built_in(alloc, unit, at, header.name.as_slice()),
     }
-    find_built_in(alloc, unit, at, header.name.as_slice())
 }

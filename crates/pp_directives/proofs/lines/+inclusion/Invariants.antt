@@ -12,3 +12,6 @@ decreases-line g l = 3 * l.levels + 1
 
 abbrev pub decreases-translate : goal.decreases-translate
 decreases-translate g l = 3 * l.levels + 2
+
+abbrev pub invariant-translate-loop-part : goal.invariant-loop-part-in-translate
+invariant-translate-loop-part g l = ?
