@@ -14,12 +14,11 @@ TESTS = os.path.join(ROOT, "crates", "pp_conditions", "src", "tests.rt")
 
 
 def rows():
-    """The rows of the test of conditions that hold or don't."""
+    """The rows of the tests of values: conditions that hold or don't."""
     text = open(TESTS).read()
-    start = text.index("fn conditions_hold_or_not")
-    table = text[start:text.index("];", start)]
-    for condition, value in re.findall(r'\(\s*"((?:[^"\\]|\\.)*)",\s*"(true|false)",?\s*\)', table):
-        yield re.sub(r"\\(.)", r"\1", condition), value
+    for table in re.findall(r"fn values_\w+\(.*?\n    \];", text, re.S):
+        for condition, value in re.findall(r'\(\s*"((?:[^"\\]|\\.)*)",\s*"(true|false)",?\s*\)', table):
+            yield re.sub(r"\\(.)", r"\1", condition), value
 
 
 def judged(condition):

@@ -2,3 +2,6 @@ pub mod View
 pub mod Weight
 pub mod Reading
 pub mod Parsing
+pub mod Ranks
+pub mod Answers
+pub mod Hiding

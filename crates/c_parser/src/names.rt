@@ -1,11 +1,12 @@
 //! Which identifiers are typedef names: the scopes of the declarations that have been read.
 
-ghost use Rattle.std.specs.Prelude.{◌≡◌, drop, true, None, OnOk};
+ghost use Rattle.std.specs.Prelude.{◌≡◌, true, None, OnOk};
 ghost use Rattle.c_model.specs.NameScopes as spec;
 ghost use Rattle.c_model.specs.declared.grammar.Act.TheVariants as act;
 ghost use Rattle.c_model.specs.declared.grammar.Rule.TheVariants as rule;
 ghost use Rattle.c_model.specs.declared.grammar.Terminal.{Terminal};
 
+use crate::entries::Entries;
 use crate::kinds;
 use crate::stack::Stack;
 use c_model::grammar::{Act, Entry, Frame, Reading, Rule, Terminal};
@@ -18,7 +19,7 @@ use std::mem;
 #[derive(Debug, Drop)]
 pub struct Names {
     alloc: Global,
-    entries: Vec<Entry>,
+    entries: Entries,
     reading: Reading,
     frames: Stack<Frame>,
     brackets: Stack<u8>,
@@ -29,7 +30,7 @@ impl Model for Names {
 
     ghost Value = { Scopes };
 
-    ghost view = { λ n. record { entries = n.entries.items; reading = n.reading; frames = n.frames; brackets = n.brackets } };
+    ghost view = { λ n. record { entries = n.entries; reading = n.reading; frames = n.frames; brackets = n.brackets } };
 }
 
 /// Nothing is known yet.
@@ -44,31 +45,6 @@ fn fresh() -> Reading
         near: false,
         pointer: false,
         held: None,
-    }
-}
-
-/// Whether the latest declaration of the name declares a typedef name.
-fn is_type(entries: &[Entry], name: u32) -> bool
-    ensures { result ≡ spec.is_type entries.now name }
-{
-    let mut found = false;
-    for entry in entries {
-        if entry.name == name {
-            found = entry.is_type;
-        }
-    }
-    found
-}
-
-/// The entries from this number on.
-fn behind(entries: &[Entry], count: usize) -> &[Entry]
-    ensures { result.now ≡ drop count entries.now }
-{
-    if count <= entries.len() {
-        let (_front, rest) = entries.split_at(count);
-        rest
-    } else {
-        &[]
     }
 }
 
@@ -117,7 +93,7 @@ impl Names {
     {
         Names {
             alloc,
-            entries: Vec::new(alloc),
+            entries: Entries::new(alloc),
             reading: fresh(),
             frames: Stack::new(alloc),
             brackets: Stack::new(alloc),
@@ -128,7 +104,7 @@ impl Names {
     pub fn names_type(&self, name: u32) -> bool
         ensures { result ≡ spec.is_type self.now.entries name }
     {
-        is_type(self.entries.as_slice(), name)
+        self.entries.is_type(name)
     }
 
     /// Whether a typedef name that comes next is no type specifier.
@@ -298,8 +274,7 @@ impl Names {
         if let Some(frame) = self.frames.pop() {
             self.reading = frame.reading;
             if self.reading.near {
-                let parameters = behind(self.entries.as_slice(), frame.count);
-                self.reading.held = Some(Items::from_slice(self.alloc, parameters)?);
+                self.reading.held = Some(self.entries.since(self.alloc, frame.count)?);
             }
             self.entries.truncate(frame.count);
             self.reading.near = false;
@@ -329,7 +304,7 @@ impl Names {
         let outer = mem::replace(&mut self.reading, fresh());
         let count = self.entries.len();
         if let Some(parameters) = &outer.held {
-            self.entries.extend_from_slice(parameters.as_slice())?;
+            self.entries.extend(parameters.as_slice())?;
         }
         self.frames.push(Frame {
             count,

@@ -1,4 +1,4 @@
-//! The parsing of a translation unit.
+//! The parsing of a translation unit, given as the tokens that the grammar sees.
 
 ghost use Rattle.c_parser.specs.Parsing.{Parsed};
 
@@ -31,7 +31,7 @@ const MAX_DEPTH: usize = 1000;
 /// The tree is one that the grammar derives, and the only one of the parser's table. The tokens before a fault begin a
 /// unit by the grammar, and no longer front does by the open table: the grammar, but that lists of type specifiers and
 /// the braces of `struct` and `enum` take what comes next, and `[` and `[` begin attributes where an array may follow.
-pub fn parse(alloc: Global, tokens: &[Terminal]) -> Result<Items<Tree>, Refusal>
+pub fn parse_terminals(alloc: Global, tokens: &[Terminal]) -> Result<Items<Tree>, Refusal>
     ensures { Parsed tokens.now result }
 {
     let mut reader = Reader {

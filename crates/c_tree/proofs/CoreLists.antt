@@ -1,5 +1,5 @@
 -- A list of typed parts with one more at its end is typed.
-use Rattle.std.proofs.Common.{◌≡◌, true, ◌&&◌, List, [], ◌∷◌, ◌++◌, refl}
+use Rattle.std.proofs.Common.{◌≡◌, true, List, [], ◌∷◌, ◌++◌, refl}
 use Rattle.std.proofs.lemmas.Bool.{and_parts}
 use Rattle.c_model.specs.TypedExpr.{is_typed, are_typed, are_typed_values}
 use Rattle.c_model.specs.TypedStat.{is_typed_stat, are_typed_stats, are_typed_cases}

@@ -1,6 +1,4 @@
 -- The parts of a core that the forms of its nodes stand for.
-use Rattle.std.specs.Prelude.{ℕ, List, [], ◌∷◌}
-use Rattle.c_model.specs.declared.marks.DeclId.{DeclId}
 use Rattle.c_model.specs.Core as m
 use Rattle.c_model.specs.CoreNodes.{Initial, initials}
 use Rattle.c_tree.specs.declared.core_exprs.CoreAssignment.{CoreAssignment}

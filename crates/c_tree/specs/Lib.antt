@@ -28,3 +28,4 @@ pub mod SyntaxSizes
 pub mod SyntaxFalls
 pub mod SyntaxLeafCode
 pub mod SyntaxCode
+pub mod SyntaxSorts

@@ -3,7 +3,6 @@ use Rattle.std.specs.Prelude.{◌≡◌, zero, suc, refl}
 use Rattle.std.specs.Coded.{Coded}
 use base.Stored.{Gv, gnil, gnum, gcons}
 use Rattle.c_model.specs.TypesCode.{one_to_one}
-use Rattle.c_model.specs.Types89.{Type89}
 use Rattle.c_tree.specs.LeafCode.{put_nat, get_nat, put_text, get_text, text_back, put_binary, get_binary, binary_back, put_logic, get_logic, logic_back}
 use Rattle.c_tree.specs.UnitTypeCode.{put_type, get_type, type_back}
 use Rattle.c_model.specs.Program89 as m

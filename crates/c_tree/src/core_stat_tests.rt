@@ -2,7 +2,6 @@
 //! expression and a long block.
 ghost use Rattle.std.specs.Prelude.{◌≡◌, pos, [], ◌∷◌, IfOk, IsTrue};
 ghost use Rattle.c_model.specs.CoreTypes.{int_type, type_of};
-ghost use Rattle.c_model.specs.TypedExpr.{is_typed};
 ghost use Rattle.c_model.specs.TypedStat.{is_typed_stat, are_typed_stats};
 ghost use Rattle.c_model.specs.CoreNodes as n;
 ghost use Rattle.c_model.specs.Core as m;

@@ -1,12 +1,10 @@
-//! One node of each form of the core, made, copied and read, with the types of its expressions; a deep expression and
-//! a long block.
-ghost use Rattle.std.specs.Prelude.{◌≡◌, ℤ, pos, Bool, [], ◌∷◌, None, Some, IfOk, IsTrue};
+//! One expression of each form of the core, made, copied and read, with its type.
+ghost use Rattle.std.specs.Prelude.{◌≡◌, Bool, IfOk, IsTrue};
 ghost use Rattle.c_model.specs.declared.numbers.Basic.TheVariants as basic;
 ghost use Rattle.c_model.specs.declared.marks.Origin.TheVariants as origin;
 ghost use Rattle.c_model.specs.Operations.{fits};
 ghost use Rattle.c_model.specs.Types as t;
-ghost use Rattle.c_model.specs.CoreTypes.{plain, int_type, pointer_to, type_of};
-ghost use Rattle.c_model.specs.TypedExpr.{is_typed};
+ghost use Rattle.c_model.specs.CoreTypes.{plain, int_type};
 ghost use Rattle.c_model.specs.Core as m;
 
 use crate::*;

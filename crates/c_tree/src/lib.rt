@@ -16,6 +16,7 @@ mod syntax_declarators;
 mod syntax_depths;
 mod syntax_expressions;
 mod syntax_initializers;
+pub mod syntax_laws;
 mod syntax_places;
 mod syntax_specifiers;
 mod syntax_statements;

@@ -1,6 +1,5 @@
 pub mod LineLaws
 pub mod PartLaws
-pub mod FrameLaws
 pub mod ReaderLaws
 pub mod RefusalLaws
 pub mod OutcomeLaws

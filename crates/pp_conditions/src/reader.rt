@@ -5,6 +5,8 @@ ghost use Rattle.c_model.specs.ConditionValues as values;
 ghost use Rattle.c_model.specs.ConditionReader as reader;
 ghost use Rattle.c_model.specs.ConditionReading.{computed, concluded};
 ghost use Rattle.c_model.specs.Conditions.{judged};
+ghost use Rattle.c_model.specs.declared.conditions.ConditionRule.TheVariants as condition_rule;
+ghost use Rattle.pp_conditions.specs.declared.errors.Refusal.TheVariants as refusal;
 ghost use Rattle.pp_conditions.specs.Answers.{Gives};
 ghost use Rattle.pp_conditions.specs.Shown as shown;
 ghost use Rattle.pp_conditions.specs.Progress.{Goes};
@@ -22,6 +24,13 @@ use std::alloc::Global;
 pub struct Reading {
     frames: Frames,
     operand: Option<Part>,
+}
+
+/// The refusal of a token that has no place.
+fn misplaced() -> Refusal
+    ensures { result ≡ refusal.Broken condition_rule.Malformed }
+{
+    Refusal::Broken(ConditionRule::Malformed)
 }
 
 /// One more part that waits.
@@ -52,7 +61,7 @@ fn signed(frames: Frames, op: Infix) -> Result<Reading, Refusal>
     match op {
         Infix::Integer(BinOp::Add) => waiting(frames, Frame::Prefix(Prefix::Plus)),
         Infix::Integer(BinOp::Sub) => waiting(frames, Frame::Prefix(Prefix::Minus)),
-        _ => Err(Refusal::Broken(ConditionRule::Malformed)),
+        _ => Err(misplaced()),
     }
 }
 
@@ -66,9 +75,9 @@ fn begun(frames: Frames, token: ConditionToken) -> Result<Reading, Refusal>
         ConditionToken::Complement => waiting(frames, Frame::Prefix(Prefix::Complement)),
         ConditionToken::Not => waiting(frames, Frame::Prefix(Prefix::Not)),
         ConditionToken::Operator(op) => signed(frames, op),
-        ConditionToken::Close => Err(Refusal::Broken(ConditionRule::Malformed)),
-        ConditionToken::Question => Err(Refusal::Broken(ConditionRule::Malformed)),
-        ConditionToken::Colon => Err(Refusal::Broken(ConditionRule::Malformed)),
+        ConditionToken::Close => Err(misplaced()),
+        ConditionToken::Question => Err(misplaced()),
+        ConditionToken::Colon => Err(misplaced()),
     }
 }
 
@@ -98,7 +107,7 @@ fn colon(frames: Frames, operand: Part) -> Result<Reading, Refusal>
     let first = fill(&mut frames, operand, CONDITIONAL);
     match frames.pop() {
         Some(Frame::Question(test)) => waiting(frames, Frame::Colon(test, first)),
-        _ => Err(Refusal::Broken(ConditionRule::Malformed)),
+        _ => Err(misplaced()),
     }
 }
 
@@ -110,7 +119,7 @@ fn close(frames: Frames, operand: Part) -> Result<Reading, Refusal>
     let inner = fill(&mut frames, operand, CONDITIONAL);
     match frames.pop() {
         Some(Frame::Parenthesis) => Ok(standing(frames, inner)),
-        _ => Err(Refusal::Broken(ConditionRule::Malformed)),
+        _ => Err(misplaced()),
     }
 }
 
@@ -123,10 +132,10 @@ fn continued(frames: Frames, operand: Part, token: ConditionToken) -> Result<Rea
         ConditionToken::Question => question(frames, operand),
         ConditionToken::Colon => colon(frames, operand),
         ConditionToken::Close => close(frames, operand),
-        ConditionToken::Constant(_) => Err(Refusal::Broken(ConditionRule::Malformed)),
-        ConditionToken::Open => Err(Refusal::Broken(ConditionRule::Malformed)),
-        ConditionToken::Complement => Err(Refusal::Broken(ConditionRule::Malformed)),
-        ConditionToken::Not => Err(Refusal::Broken(ConditionRule::Malformed)),
+        ConditionToken::Constant(_) => Err(misplaced()),
+        ConditionToken::Open => Err(misplaced()),
+        ConditionToken::Complement => Err(misplaced()),
+        ConditionToken::Not => Err(misplaced()),
     }
 }
 

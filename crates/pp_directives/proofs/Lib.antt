@@ -4,3 +4,4 @@ pub mod StateLaws
 pub mod SplitLaws
 pub mod ControlLaws
 pub mod NameLaws
+pub mod SearchLaws

@@ -36,7 +36,7 @@ Crowded s at size error =
     ((nat_lt MOST_FILES (length s.held + 1) ≡ true) × LimitIs at 2 error)
     ⊎ ((nat_lt MOST_FILES (length s.held + 1) ≡ false) × (nat_lt MOST_BYTES (s.bytes + size) ≡ true) × LimitIs at 1 error)
 
--- whether one more file of this size may be read
-abbrev pub HasRoom : State → Place → ℕ → Result (Unit {0}) PrepError → Type 0
-HasRoom s at size (Ok done) = (nat_lt MOST_FILES (length s.held + 1) ≡ false) × (nat_lt MOST_BYTES (s.bytes + size) ≡ false)
+-- the bytes of all files with one more of this size, if it may be read
+abbrev pub HasRoom : State → Place → ℕ → Result ℕ PrepError → Type 0
+HasRoom s at size (Ok total) = (total ≡ s.bytes + size) × (nat_lt MOST_FILES (length s.held + 1) ≡ false) × (nat_lt MOST_BYTES (s.bytes + size) ≡ false)
 HasRoom s at size (Err error) = Crowded s at size error

@@ -88,13 +88,14 @@ fn up_to_close(alloc: Global, toks: &PpList, from: usize) -> Result<Option<Bytes
     ensures { IfOk result (λ found. found ≡ spec.up_to_close (drop from toks.now)) }
 {
     let mut text = Bytes::new(alloc);
-    let mut at = from;
-    while let Some(tok) = toks.get(at) {
+    for at in from..toks.count() {
+        let Some(tok) = toks.get(at) else {
+            return Ok(None);
+        };
         if tok.spelling() == b">".as_slice() {
             return Ok(Some(text));
         }
         text.push(tok.spelling())?;
-        at += 1;
     }
     Ok(None)
 }

@@ -1,5 +1,6 @@
 //! The lines of a file: directives, and the runs of text lines between them.
-ghost use Rattle.std.specs.Prelude.{◌≡◌, ◌+◌, ◌-◌, ◌<◌, ◌≤◌, [], ◌∷◌, ◌++◌, take, drop, length, slice_get, Some, None, IfOk, OnOk};
+ghost use Rattle.std.specs.Prelude.{◌≡◌, ◌+◌, ◌-◌, ◌<◌, ◌≤◌, List, [], ◌∷◌, ◌++◌, take, drop, length, slice_get, Some, None, IfOk, OnOk};
+ghost use Rattle.c_model.specs.PpTokens.{PpToken};
 ghost use Rattle.c_model.specs.Directives as directives;
 ghost use Rattle.pp_directives.specs.Parts.{line_length, added, added_line};
 
@@ -54,17 +55,19 @@ fn line_end(toks: &PpList, from: usize) -> usize
     ensures end { result ≤ length toks.now }
     ensures further { from < result }
 {
-    let mut at = from + 1;
-    while let Some(tok) = toks.get(at) {
+    let end = toks.count();
+    for at in from + 1..end {
+        let Some(tok) = toks.get(at) else {
+            return end;
+        };
         if tok.first {
             return at;
         }
-        at += 1;
     }
-    at
+    end
 }
 
-/// The directive on the line of these ranks, of which the first is its `#`.
+/// The directive on the line of these ranks, without its `#`.
 fn directive(
     alloc: Global,
     toks: &PpList,
@@ -76,19 +79,40 @@ fn directive(
     ensures { IfOk result (λ p. p ≡ directives.directive at (take (to - from) (drop from toks.now))) }
 {
     let mut tokens = PpList::new(alloc);
-    if from >= to {
-        return Ok(Part {
-            kind: LineKind::Null,
-            at,
-            tokens,
-        });
+    if from < to {
+        if let Some(name) = toks.get(from) {
+            let kind = kind_after(name);
+            copy_range(alloc, toks, from + 1, to, &mut tokens)?;
+            return Ok(Part { kind, at, tokens });
+        }
     }
-    let kind = match toks.get(from) {
-        Some(name) => kind_after(name),
-        None => LineKind::Null,
+    Ok(Part {
+        kind: LineKind::Null,
+        at,
+        tokens,
+    })
+}
+
+/// The run of text that ends the parts, taken from them, or an empty one.
+fn last_run(alloc: Global, parts: &mut Vec<Part>, at: Place) -> Result<Part, NoMemory>
+    ensures { IfOk result (λ run. (tokens : List PpToken) →
+        added parts.old.items (record { kind = LineKind.Text; at = at; tokens = tokens }) ≡ parts.new.items ++ record run { tokens = run.tokens ++ tokens } ∷ []) }
+{
+    let empty = Part {
+        kind: LineKind::Text,
+        at,
+        tokens: PpList::new(alloc),
     };
-    copy_range(alloc, toks, from + 1, to, &mut tokens)?;
-    Ok(Part { kind, at, tokens })
+    match parts.pop() {
+        Some(last) => {
+            if is_text(last.kind) {
+                return Ok(last);
+            }
+            parts.push(last)?;
+            Ok(empty)
+        }
+        None => Ok(empty),
+    }
 }
 
 /// Adds a line of text of these ranks: to the run before it, or as a new one.
@@ -103,18 +127,7 @@ fn add_text(
     requires { to ≤ length toks.now }
     ensures { OnOk result (parts.new.items ≡ added parts.old.items (record { kind = LineKind.Text; at = at; tokens = take (to - from) (drop from toks.now) })) }
 {
-    let mut run = Part {
-        kind: LineKind::Text,
-        at,
-        tokens: PpList::new(alloc),
-    };
-    if let Some(last) = parts.pop() {
-        if is_text(last.kind) {
-            run = last;
-        } else {
-            parts.push(last)?;
-        }
-    }
+    let mut run = last_run(alloc, parts, at)?;
     copy_range(alloc, toks, from, to, &mut run.tokens)?;
     parts.push(run)?;
     Ok(())
@@ -139,7 +152,8 @@ fn add_line(
         parts.push(directive(alloc, toks, first.place, from + 1, to)?)?;
         Ok(())
     } else {
-        add_text(alloc, parts, toks, first.place, from, to)
+        add_text(alloc, parts, toks, first.place, from, to)?;
+        Ok(())
     }
 }
 

@@ -43,17 +43,18 @@ pub fn again(unit: &Unit, file: u32) -> Option<u32>
     }
 }
 
-/// Whether another file of that size may be read.
-fn check_room(unit: &Unit, at: Place, size: usize) -> Result<(), PrepError>
+/// The bytes of all files with another one of that size, where it may be read.
+fn check_room(unit: &Unit, at: Place, size: usize) -> Result<u64, PrepError>
     ensures { HasRoom unit.now at size result }
 {
     if unit.held.count() >= MOST_FILES {
         return Err(limit(at, 2));
     }
-    if unit.bytes.saturating_add(size as u64) > MOST_BYTES {
+    let total = unit.bytes.saturating_add(size as u64);
+    if total > MOST_BYTES {
         return Err(limit(at, 1));
     }
-    Ok(())
+    Ok(total)
 }
 
 /// Takes a file of this text that was not read before (ISO/IEC 9899:2024, 6.10.3).
@@ -71,10 +72,10 @@ pub fn take(
     ensures { Does (spec.taken at name.now text.now unit.old) result (λ file. (Some file, unit.new)) unit.new.log }
 {
     let file = unit.name_next(alloc, name)?;
-    check_room(unit, at, text.len())?;
+    let total = check_room(unit, at, text.len())?;
     unit.held.add(alloc, name.as_bytes(), file)?;
     unit.sources.add(alloc, file, text)?;
-    unit.bytes += text.len() as u64;
+    unit.bytes = total;
     Ok(file)
 }
 

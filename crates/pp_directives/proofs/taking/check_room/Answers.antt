@@ -10,14 +10,14 @@ returns-then-count-ge-MOST_FILES c =
     let past : 1024 < length c.args.unit.now.held + 1 = omega (arith, held, c.if-count-ge-MOST_FILES.true, c.count.ensures) in
     inl (grind (arith, nat_tests, past), c.limit.ensures)
 
-pub returns-then-saturating_add-gt-MOST_BYTES : goal.returns-then-saturating_add-gt-MOST_BYTES
+pub returns-then-total-gt-MOST_BYTES : goal.returns-then-total-gt-MOST_BYTES
 unfolding MOST_FILES MOST_BYTES
-returns-then-saturating_add-gt-MOST_BYTES c =
+returns-then-total-gt-MOST_BYTES c =
     let held : length c.unit.inside.held ≡ length c.args.unit.now.held = ap (λ s. length s.held) c.unit.view_is in
     let bytes : c.unit.inside.bytes ≡ c.args.unit.now.bytes = ap (λ s. s.bytes) c.unit.view_is in
     let within : length c.args.unit.now.held + 1 ≤ 1024 = omega (arith, held, c.if-count-ge-MOST_FILES.false, c.count.ensures) in
-    let past : 67108864 < c.args.unit.now.bytes + c.args.size = omega (arith, bytes, c.if-saturating_add-gt-MOST_BYTES.true, c.saturating_add.ensures) in
-    inr (grind (arith, nat_tests, within), grind (arith, nat_tests, past), c.limit-then-saturating_add-gt-MOST_BYTES.ensures)
+    let past : 67108864 < c.args.unit.now.bytes + c.args.size = omega (arith, bytes, c.if-total-gt-MOST_BYTES.true, c.saturating_add-total.ensures) in
+    inr (grind (arith, nat_tests, within), grind (arith, nat_tests, past), c.limit-then-total-gt-MOST_BYTES.ensures)
 
 pub returns : goal.returns
 unfolding MOST_FILES MOST_BYTES
@@ -25,5 +25,5 @@ returns c =
     let held : length c.unit.inside.held ≡ length c.args.unit.now.held = ap (λ s. length s.held) c.unit.view_is in
     let bytes : c.unit.inside.bytes ≡ c.args.unit.now.bytes = ap (λ s. s.bytes) c.unit.view_is in
     let within : length c.args.unit.now.held + 1 ≤ 1024 = omega (arith, held, c.if-count-ge-MOST_FILES.false, c.count.ensures) in
-    let fits : c.args.unit.now.bytes + c.args.size ≤ 67108864 = omega (arith, bytes, c.if-saturating_add-gt-MOST_BYTES.false, c.saturating_add.ensures) in
-    (grind (arith, nat_tests, within), grind (arith, nat_tests, fits))
+    let fits : c.args.unit.now.bytes + c.args.size ≤ 67108864 = omega (arith, bytes, c.if-total-gt-MOST_BYTES.false, c.saturating_add-total.ensures) in
+    (omega (arith, bytes, c.if-total-gt-MOST_BYTES.false, c.saturating_add-total.ensures), grind (arith, nat_tests, within), grind (arith, nat_tests, fits))

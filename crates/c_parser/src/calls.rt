@@ -1,0 +1,68 @@
+//! The parsing of a list of tokens of C.
+
+ghost use Rattle.std.specs.Prelude.{◌≡◌, slice_get};
+ghost use Rattle.c_model.specs.TerminalsOf.{terminals_of};
+ghost use Rattle.c_parser.specs.Answers.{Answers, place_of, IsSyntaxError, IsDepthLimit};
+ghost use Rattle.c_parser.specs.Parsing.{IsFault, IsTooDeep};
+
+use crate::errors::ParseError;
+use crate::terminals::terminals;
+use crate::unit::{Refusal, parse_terminals};
+use c_model::grammar::Tree;
+use c_tokens::CList;
+use cake_base::{Family, Fault, Limit, LimitHit, Place, Rule};
+use sqlite_items::Items;
+use std::alloc::Global;
+
+/// The place of the token of this rank, or the end where there is none.
+fn place_at(toks: &CList, at: usize, end: Place) -> Place
+    ensures { result ≡ place_of (slice_get toks.now at) end }
+{
+    match toks.get(at) {
+        Some(token) => token.place,
+        None => end,
+    }
+}
+
+/// S01 at the token of this rank.
+fn syntax_error(toks: &CList, at: usize, end: Place) -> Fault
+    requires { IsFault (terminals_of toks.now) at }
+    ensures { IsSyntaxError toks.now end result }
+{
+    Fault {
+        place: place_at(toks, at, end),
+        rule: Rule {
+            family: Family::S,
+            number: 1,
+        },
+    }
+}
+
+/// M06 at the token of this rank.
+fn depth_limit(toks: &CList, at: usize, end: Place) -> LimitHit
+    requires { IsTooDeep (terminals_of toks.now) at }
+    ensures { IsDepthLimit toks.now result }
+{
+    LimitHit {
+        place: place_at(toks, at, end),
+        limit: Limit { number: 6 },
+    }
+}
+
+/// The trees of a translation unit (ISO/IEC 9899:2024, 6.9), which are one.
+///
+/// `end` is the place behind the last token. `ParseError::Fault` is S01 at the first token with which no unit can go on,
+/// or at `end` where the tokens are the front of a unit and no unit. `ParseError::Limit` is M06 at a token that stands
+/// in more than 1,000 nested parts. `ParseError::NoMemory` comes for a list that no text gives, too: one with a word or
+/// a punctuator that has no number of the vocabulary, or with an identifier behind 4,294,967,296 tokens.
+pub fn parse(alloc: Global, toks: &CList, end: Place) -> Result<Items<Tree>, ParseError>
+    ensures { Answers toks.now end result }
+{
+    let tokens = terminals(alloc, toks)?;
+    match parse_terminals(alloc, tokens.as_slice()) {
+        Ok(trees) => Ok(trees),
+        Err(Refusal::Memory) => Err(ParseError::NoMemory),
+        Err(Refusal::Deep(at)) => Err(ParseError::Limit(depth_limit(toks, at, end))),
+        Err(Refusal::Fault(at)) => Err(ParseError::Fault(syntax_error(toks, at, end))),
+    }
+}

@@ -1,0 +1,14 @@
+use Rattle.std.proofs.Common.{◌≡◌, ◌+◌, ◌*◌, drop}
+use Rattle.c_model.specs.Included.{levels, include_line}
+use Rattle.c_model.specs.Preprocessing.{all_lines}
+use Rattle.pp_directives.specs.Reads.{Reaches}
+use Rattle.pp_directives.proofs.lines.+inclusion.Given as goal
+
+abbrev pub decreases-include : goal.decreases-include
+decreases-include g l = 3 * l.levels
+
+abbrev pub decreases-line : goal.decreases-line
+decreases-line g l = 3 * l.levels + 1
+
+abbrev pub decreases-translate : goal.decreases-translate
+decreases-translate g l = 3 * l.levels + 2
