@@ -3,7 +3,6 @@ use Rattle.std.proofs.Common.{◌≡◌, ℕ, List, [], ◌∷◌, Option, Some,
 use Rattle.cake_base.specs.declared.places.Place.{Place}
 use Rattle.cake_base.specs.declared.rules.Fault.{Fault}
 use Rattle.cake_base.specs.Outside.{Held, FilesView}
-use Rattle.c_model.specs.declared.directives.ReadCause.{ReadCause}
 use Rattle.c_model.specs.declared.directives.ReadCause.TheVariants as cause
 use Rattle.c_model.specs.declared.tokens.CTok.{CTok}
 use Rattle.c_model.specs.declared.words.Mode.{Mode}
@@ -11,20 +10,22 @@ use Rattle.c_model.specs.declared.words.Mode.TheVariants.{Translate, Expand, Che
 use Rattle.c_model.specs.CTokens.{c_tokens_of}
 use Rattle.c_model.specs.FirstUnit.{returning}
 use Rattle.c_model.specs.PreprocessedUnit.{Prepared, preprocessed, unit}
-use Rattle.c_model.specs.Processes.{ReadAnswer, NotHeld, Stop, broken, passed, unread, Log, Refusal, Process, gives, refuses, asks}
+use Rattle.c_model.specs.Processes.{NotHeld, Stop, broken, passed, unread, Log, Refusal, Process, gives, refuses, asks}
 use Rattle.c_model.specs.Verdict.{Verdict, Stopped, NotBuilt, IsCore, IsVerdictOn, IsVerdictOf, IsVerdict}
 use Rattle.c_model.specs.Words.{Plan}
 use Rattle.c_model.specs.Answer.{Answer, Usage, answer_to_stop, answer_to, log_of, expanded, IsAnswerIn}
 use Rattle.pp_directives.specs.declared.errors.PrepError.{PrepError}
 use Rattle.pp_directives.specs.declared.errors.PrepError.TheVariants as prep_error
-use Rattle.pp_directives.specs.Outcomes.{halted, FailsRead, Stops, Runs}
+use Rattle.pp_directives.specs.Outcomes.{halted, Stops, Runs}
 use Rattle.pp_directives.specs.Promise as pp
-use Rattle.pp_directives.specs.Reads.{Asked, Reads, After, Reaches}
+use Rattle.pp_directives.specs.Reads.{Asked, After, Reaches}
 use Rattle.cake_cli.specs.declared.report.Report.{Report}
 use Rattle.cake_cli.specs.Call.{Call, ComesOf, IsDueIn, IsDue}
+use Rattle.cake_cli.specs.Promise.{ReadsEach}
 use Rattle.cake_cli.specs.Reader as reader
 use Rattle.cake_cli.specs.ReadsAs.{ReadsAs}
-use Rattle.cake_cli.specs.Reports.{IsReport, ReportsDone, ReportsStop, ReportsPlan, stop_of, unread_answer}
+use Rattle.cake_cli.specs.Reports.{IsReport, ReportsDone, ReportsStop, ReportsPlan, stop_of}
+use Rattle.cake_cli.proofs.ReadCounts.{IsOver, count_reached}
 use Rattle.cake_cli.proofs.Verdicts.{reading_is_verdict}
 
 -- ---- what preprocessing comes to
@@ -49,6 +50,12 @@ due_by : (told : Option Held) (plan : Plan) (p : Process Prepared) (done : Resul
 due_by None plan p done due held comes is = (done, comes, is)
 due_by (Some h) plan p done due held comes is = subst (λ d. IsAnswerIn plan.mode d due) (sym (held h refl)) is
 
+-- ---- how many reads there were
+
+each_read : (told : Option Held) (plan : Plan) (files files' : FilesView) (q : Process Prepared) → files.held ≡ told → Reaches files files' (unit plan.options plan.file) q → IsOver q → ReadsEach told plan files files'
+each_read None plan files files' q e reaches over = tt
+each_read (Some held) plan files files' q e reaches over = count_reached held files files' (unit plan.options plan.file) q e reaches over
+
 -- ---- the report of a unit that is preprocessed
 
 held_done : (told : Option Held) (plan : Plan) (prep : pp.Prep) (log : Log) → pp.IsDue told plan.options plan.file (Ok prep) log → (held : Held) → told ≡ Some held → preprocessed held plan.options plan.file ≡ Ok (pp.with_log log prep)
@@ -57,7 +64,7 @@ held_done (Some h) plan prep log due held e = ap (λ x. preprocessed x plan.opti
 
 pub prepared_reported : (plan : Plan) (prep : pp.Prep) (log : Log) (c : Call) (r : Report) → pp.IsDue c.files.held plan.options plan.file (Ok prep) log → Runs c.files c.files' (unit plan.options plan.file) (Ok prep) (pp.with_log log) log → ReportsDone plan.mode (Ok (pp.with_log log prep)) r → ReportsPlan plan c r
 prepared_reported plan prep log c r due answered (answer, is, report) =
-    inl (answer, due_by c.files.held plan (unit plan.options plan.file) (Ok (pp.with_log log prep)) answer (held_done c.files.held plan prep log due) (reaches_comes c.files c.files' _ _ _ answered refl) is, report)
+    inl (answer, due_by c.files.held plan (unit plan.options plan.file) (Ok (pp.with_log log prep)) answer (held_done c.files.held plan prep log due) (reaches_comes c.files c.files' _ _ _ answered refl) is, report, each_read c.files.held plan c.files c.files' (gives (pp.with_log log prep)) refl answered tt)
 
 -- ---- the report where it stops
 
@@ -68,7 +75,7 @@ stop_answer Check refusal = (Stopped refusal.stop, refl, refl)
 
 stopped_reported : (plan : Plan) (stop : Stop) (log : Log) (c : Call) (r : Report) → ((held : Held) → c.files.held ≡ Some held → preprocessed held plan.options plan.file ≡ pp.refused stop log) → Reaches c.files c.files' (unit plan.options plan.file) (halted stop log) → IsReport (answer_to_stop log stop) r → ReportsPlan plan c r
 stopped_reported plan stop log c r held reaches report =
-    inl (answer_to_stop log stop, due_by c.files.held plan (unit plan.options plan.file) (pp.refused stop log) _ held (reaches_comes c.files c.files' _ _ _ reaches refl) (stop_answer plan.mode (record { stop = stop; log = log })), report)
+    inl (answer_to_stop log stop, due_by c.files.held plan (unit plan.options plan.file) (pp.refused stop log) _ held (reaches_comes c.files c.files' _ _ _ reaches refl) (stop_answer plan.mode (record { stop = stop; log = log })), report, each_read c.files.held plan c.files c.files' (halted stop log) refl reaches tt)
 
 held_stop : (told : Option Held) (plan : Plan) (error : PrepError) (stop : Stop) (log : Log) → ((held : Held) → pp.IsDueStop (preprocessed held plan.options plan.file) error log → preprocessed held plan.options plan.file ≡ pp.refused stop log) → pp.IsDue told plan.options plan.file (Err error) log → (held : Held) → told ≡ Some held → preprocessed held plan.options plan.file ≡ pp.refused stop log
 held_stop None plan error stop log by due held e = absurd (let h : None ≡ Some held = e in cc)
@@ -104,7 +111,7 @@ pub every_verdict : (done : Result Prepared Refusal) → (v : Verdict) × IsVerd
 every_verdict (Ok unit) = converted_verdict (c_tokens_of unit.tokens) unit.end
 every_verdict (Err refusal) = (Stopped refusal.stop, refl)
 
-answer_in : (mode : Mode) (done : Result Prepared Refusal) → (due : Answer) × IsAnswerIn mode done due
+pub answer_in : (mode : Mode) (done : Result Prepared Refusal) → (due : Answer) × IsAnswerIn mode done due
 answer_in Expand done = (expanded done, refl)
 answer_in Translate done = let v = every_verdict done in (answer_to Translate (log_of done) v.0, (v.0, v.1, refl))
 answer_in Check done = let v = every_verdict done in (answer_to Check (log_of done) v.0, (v.0, v.1, refl))

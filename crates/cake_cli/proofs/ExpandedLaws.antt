@@ -1,11 +1,10 @@
 -- The text of tokens, one token further.
-use Rattle.std.proofs.Common.{◌≡◌, ℕ, suc, ◌+◌, ◌<◌, List, [], ◌∷◌, ◌++◌, length, drop, slice_get, Option, Some, None, refl, sym, ap, ◌∙◌, append_assoc, arith}
-use Rattle.std.proofs.lemmas.List.{append-nil}
+use Rattle.std.proofs.Common.{◌≡◌, ℕ, suc, ◌+◌, List, [], ◌∷◌, ◌++◌, length, drop, slice_get, Option, Some, None, refl, sym, ap, ◌∙◌, append_assoc, arith}
 use Rattle.cake_base.specs.declared.places.Place.{Place}
 use Rattle.c_model.specs.PpTokens.{PpToken}
-use Rattle.c_model.specs.ExpandedText.{parting, expanded_text, behind_token}
+use Rattle.c_model.specs.ExpandedText.{parting, behind_token}
 use Rattle.cake_cli.specs.Behind.{token_behind, text_behind}
-use Rattle.cake_cli.proofs.GetLaws.{drop_get, get_none}
+use Rattle.cake_cli.proofs.GetLaws.{drop_get}
 
 text_step : (before : Option Place) (t : PpToken) (rest : List PpToken) → text_behind before (t ∷ rest) ≡ token_behind before t ++ text_behind (Some t.place) rest
 text_step None t rest = refl

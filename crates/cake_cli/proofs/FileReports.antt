@@ -1,7 +1,7 @@
 -- The report of a plan, by what preprocessing answered.
-use Rattle.std.proofs.Common.{◌≡◌, ℕ, Result, Ok, Err, IfOk}
+use Rattle.std.proofs.Common.{Result, Ok, Err, IfOk}
 use Rattle.cake_base.specs.Outside.{FilesView, SinkView}
-use Rattle.c_model.specs.PreprocessedUnit.{Prepared, unit}
+use Rattle.c_model.specs.PreprocessedUnit.{unit}
 use Rattle.c_model.specs.Processes.{Log}
 use Rattle.c_model.specs.Words.{Plan}
 use Rattle.pp_directives.specs.declared.errors.PrepError.{PrepError}

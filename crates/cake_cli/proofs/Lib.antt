@@ -19,3 +19,5 @@ pub mod LineBounds
 pub mod TextLaws
 pub mod Pushes
 pub mod NoteLaws
+pub mod AnswerLaws
+pub mod ReadCounts

@@ -1,5 +1,5 @@
 -- The reports that the code makes, by what they are made of.
-use Rattle.std.proofs.Common.{◌≡◌, ℕ, List, [], Option, Some, None, Result, Ok, Err, IfOk, refl, sym, ap, ◌∙◌, subst}
+use Rattle.std.proofs.Common.{◌≡◌, ℕ, List, Some, Result, Ok, Err, IfOk, refl, sym, ◌∙◌, subst}
 use Rattle.cake_base.specs.declared.places.Place.{Place}
 use Rattle.cake_base.specs.declared.rules.Fault.{Fault}
 use Rattle.c_model.specs.declared.tokens.CTok.{CTok}
@@ -19,7 +19,7 @@ use Rattle.cake_cli.specs.declared.expression.Expr.{Expr}
 use Rattle.cake_cli.specs.declared.report.Report.{Report}
 use Rattle.cake_cli.specs.declared.status.Status.TheVariants as status
 use Rattle.cake_cli.specs.Lowered.{program_of}
-use Rattle.cake_cli.specs.Promise.{Delivers, IsDelivered}
+use Rattle.cake_cli.specs.Promise.{IsDelivered}
 use Rattle.cake_cli.specs.Reader as reader
 use Rattle.cake_cli.specs.ReadsAs.{ReadsAs}
 use Rattle.cake_cli.specs.Reports.{IsReport, ReportsTokens, ReportsUnit, ReportsDone, ReportsStop, stop_of}

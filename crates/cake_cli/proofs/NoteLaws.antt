@@ -1,5 +1,5 @@
 -- The lines of notes, one note further.
-use Rattle.std.proofs.Common.{◌≡◌, ℕ, ◌+◌, List, [], ◌∷◌, ◌++◌, length, drop, slice_get, Option, Some, None, refl, sym, ap, ◌∙◌, append_assoc}
+use Rattle.std.proofs.Common.{◌≡◌, ℕ, ◌+◌, List, ◌++◌, drop, slice_get, Some, sym, ap, ◌∙◌, append_assoc}
 use Rattle.cake_base.specs.declared.rules.Note.{Note}
 use Rattle.c_model.specs.Processes.{Log}
 use Rattle.c_model.specs.ReportLines.{note_line, note_lines}

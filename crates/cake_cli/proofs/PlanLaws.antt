@@ -1,9 +1,8 @@
 -- A reading of words, one word further.
 use Rattle.std.proofs.Common.{◌≡◌, ℕ, suc, ◌+◌, List, [], ◌∷◌, ◌++◌, Option, Some, None, Bool, true, false, if◌then◌else◌, Result, Ok, Err, refl, sym, ap, ◌∙◌, append_assoc, arith}
-use Rattle.std.proofs.lemmas.List.{append-nil}
 use Rattle.std.proofs.Common.{◌<◌, length, get_or, drop, map, subst}
 use Rattle.std.proofs.Math.Seq.{drop-cons}
-use Rattle.std.specs.Prelude.{IsOk, IfOk}
+use Rattle.std.specs.Prelude.{IfOk}
 use Rattle.c_model.specs.PreprocessedUnit.{Options, command_lines}
 use Rattle.c_model.specs.Words.{Plan, Meaning, Asks, Defines, Searches, Names, Expects, EndsOptions, Nothing, Met, meaning, is_good, behind, with_option, adds, plan_from, plan}
 use Rattle.cake_cli.specs.WordsRead.{step, Leads, both, prefixed, with_meaning, plan_as, Answers}

@@ -13,7 +13,7 @@ use Rattle.c_model.specs.Answer.{Delivery, Answer, Usage, Unreadable, Refused, U
 use Rattle.cake_cli.specs.declared.status.Status.{Status}
 use Rattle.cake_cli.specs.declared.status.Status.TheVariants as status
 use Rattle.cake_cli.specs.Call.{Call, IsDueIn, IsDue}
-use Rattle.cake_cli.specs.Promise.{ReadFailed, NothingOnOut, NothingOnErr, PutsOnOut, PutsOnErr, PutsPrefixOnErr, ForDue, AreRead, AreBad, IsWritten, IsRefused, IsUnreadable, IsLimited, IsExcused, Exactly, IsDelivered, PutsText, IsFailedText, ErrGets, PutFailed, NoFault}
+use Rattle.cake_cli.specs.Promise.{ReadFailed, NothingOnOut, NothingOnErr, PutsOnOut, PutsOnErr, PutsPrefixOnErr, ForDue, AreRead, AreBad, IsWritten, IsRefused, IsUnreadable, IsLimited, IsExcused, Exactly, IsDelivered, PutsText, IsFailedRead, IsFailedText, ErrGets, PutFailed, NoFault, ReadsAll}
 use Rattle.cake_cli.specs.Reports.{status_of, IsOutText, all_put, err_failed, out_failed, Outcome, as_due, no_memory, failed_read, unread_answer}
 use Rattle.cake_cli.proofs.Outcomes.{ComesOut}
 
@@ -21,13 +21,16 @@ use Rattle.cake_cli.proofs.Outcomes.{ComesOut}
 are_read : (plan : Result Plan ℕ) (p : Plan) → plan ≡ Ok p → AreRead plan
 are_read plan p e = subst AreRead (sym e) tt
 
+failed_is : (plan : Result Plan ℕ) (p : Plan) (c : Call) → plan ≡ Ok p → IsFailedRead (Ok p) c → IsFailedRead plan c
+failed_is plan p c e is = subst (λ x. IsFailedRead x c) (sym e) is
+
 -- the status of a call is that of the due answer, or is excused
 status_is : (plan : Result Plan ℕ) (due : Answer) (c : Call) (result : Status) → Outcome plan due c result → (result ≡ status_of due) ⊎ IsExcused result plan c
-status_is plan due c result (as_due text is (all_put r e o)) = inl r
-status_is plan due c result (as_due text is (err_failed r rose e o)) = inr (subst (λ s. IsExcused s plan c) (sym r) (inl rose))
-status_is plan due c result (as_due text is (out_failed r rose e o ne)) = inr (subst (λ s. IsExcused s plan c) (sym r) (inr rose))
+status_is plan due c result (as_due text is counts (all_put r e o)) = inl r
+status_is plan due c result (as_due text is counts (err_failed r rose e o)) = inr (subst (λ s. IsExcused s plan c) (sym r) (inl rose))
+status_is plan due c result (as_due text is counts (out_failed r rose e o ne)) = inr (subst (λ s. IsExcused s plan c) (sym r) (inr rose))
 status_is plan due c result (no_memory p pl r o e) = inr (subst (λ s. IsExcused s plan c) (sym r) (are_read plan p pl))
-status_is plan due c result (failed_read p pl file log f (all_put r e o)) = inr (subst (λ s. IsExcused s plan c) (sym r) (are_read plan p pl, f.rose))
+status_is plan due c result (failed_read p pl file log f (all_put r e o)) = inr (subst (λ s. IsExcused s plan c) (sym r) (failed_is plan p c pl (file, log, f)))
 status_is plan due c result (failed_read p pl file log f (err_failed r rose e o)) = inr (subst (λ s. IsExcused s plan c) (sym r) (inl rose))
 status_is plan due c result (failed_read p pl file log f (out_failed r rose e o ne)) = absurd (ne refl)
 
@@ -116,9 +119,9 @@ puts_text (Limited log hit) text c e d o = absurd (let h : status.Written ≡ st
 puts_text (Written log delivery) text c e d o = (log, delivery, refl, text, d, o)
 
 written_by : (plan : Result Plan ℕ) (due : Answer) (c : Call) (result : Status) → Outcome plan due c result → result ≡ status.Written → PutsText due c
-written_by plan due c result (as_due text is (all_put r e o)) w = puts_text due text c (sym w ∙ r) is o
-written_by plan due c result (as_due text is (err_failed r rose e o)) w = absurd (let h : status.Written ≡ status.WriteFault = sym w ∙ r in cc)
-written_by plan due c result (as_due text is (out_failed r rose e o ne)) w = absurd (let h : status.Written ≡ status.WriteFault = sym w ∙ r in cc)
+written_by plan due c result (as_due text is counts (all_put r e o)) w = puts_text due text c (sym w ∙ r) is o
+written_by plan due c result (as_due text is counts (err_failed r rose e o)) w = absurd (let h : status.Written ≡ status.WriteFault = sym w ∙ r in cc)
+written_by plan due c result (as_due text is counts (out_failed r rose e o ne)) w = absurd (let h : status.Written ≡ status.WriteFault = sym w ∙ r in cc)
 written_by plan due c result (no_memory p pl r o e) w = absurd (let h : status.Written ≡ status.NoMemory = sym w ∙ r in cc)
 written_by plan due c result (failed_read p pl file log f (all_put r e o)) w = absurd (let h : status.Written ≡ status.ReadFault = sym w ∙ r in cc)
 written_by plan due c result (failed_read p pl file log f (err_failed r rose e o)) w = absurd (let h : status.Written ≡ status.WriteFault = sym w ∙ r in cc)
@@ -147,9 +150,9 @@ failed_text : (plan : Result Plan ℕ) (p : Plan) (c : Call) (text : List ℕ) �
 failed_text plan p c text e is = subst (λ x. IsFailedText x c text) (sym e) is
 
 err_by : (plan : Result Plan ℕ) (due : Answer) (c : Call) (result : Status) → Outcome plan due c result → ErrGets result plan due c
-err_by plan due c result (as_due text is (all_put r e o)) = subst (λ s. ErrGets s plan due c) (sym r) (err_of_due plan due c e)
-err_by plan due c result (as_due text is (err_failed r rose e o)) = subst (λ s. ErrGets s plan due c) (sym r) (err_text due, inl refl, e)
-err_by plan due c result (as_due text is (out_failed r rose e o ne)) = subst (λ s. ErrGets s plan due c) (sym r) (err_text due, inl refl, whole_prefix (err_text due) c e)
+err_by plan due c result (as_due text is counts (all_put r e o)) = subst (λ s. ErrGets s plan due c) (sym r) (err_of_due plan due c e)
+err_by plan due c result (as_due text is counts (err_failed r rose e o)) = subst (λ s. ErrGets s plan due c) (sym r) (err_text due, inl refl, e)
+err_by plan due c result (as_due text is counts (out_failed r rose e o ne)) = subst (λ s. ErrGets s plan due c) (sym r) (err_text due, inl refl, whole_prefix (err_text due) c e)
 err_by plan due c result (no_memory p pl r o e) = subst (λ s. ErrGets s plan due c) (sym r) e
 err_by plan due c result (failed_read p pl file log f (all_put r e o)) =
     subst (λ s. ErrGets s plan due c) (sym r) (inr (err_text (unread_answer log file), failed_text plan p c _ pl (file, log, f, refl), e))
@@ -233,11 +236,11 @@ limit plan c result (due, is, out) = (
   ),
 )
 
-read_fault_by : (plan : Result Plan ℕ) (due : Answer) (c : Call) (result : Status) → (result ≡ status_of due) ⊎ IsExcused result plan c → result ≡ status.ReadFault → IsUnreadable due ⊎ (AreRead plan × ReadFailed c)
+read_fault_by : (plan : Result Plan ℕ) (due : Answer) (c : Call) (result : Status) → (result ≡ status_of due) ⊎ IsExcused result plan c → result ≡ status.ReadFault → IsUnreadable due ⊎ IsFailedRead plan c
 read_fault_by plan due c result (inl e) r = inl (unreadable_due due (sym e ∙ r))
 read_fault_by plan due c result (inr x) r = inr (subst (λ s. IsExcused s plan c) r x)
 
-pub read_fault : (plan : Result Plan ℕ) (c : Call) (result : Status) → ComesOut plan c result → ForDue plan c (λ due. (result ≡ status.ReadFault → IsUnreadable due ⊎ (AreRead plan × ReadFailed c)) × (IsUnreadable due → (result ≡ status.ReadFault) ⊎ IsExcused result plan c))
+pub read_fault : (plan : Result Plan ℕ) (c : Call) (result : Status) → ComesOut plan c result → ForDue plan c (λ due. (result ≡ status.ReadFault → IsUnreadable due ⊎ IsFailedRead plan c) × (IsUnreadable due → (result ≡ status.ReadFault) ⊎ IsExcused result plan c))
 read_fault plan c result (due, is, out) = (
   due,
   is,
@@ -256,9 +259,9 @@ no_write_fault (Limited log hit) e = let h : status.WriteFault ≡ status.Limit 
 no_write_fault (Written log delivery) e = let h : status.WriteFault ≡ status.Written = e in cc
 
 write_fault_by : (plan : Result Plan ℕ) (due : Answer) (c : Call) (result : Status) → Outcome plan due c result → result ≡ status.WriteFault → PutFailed due c
-write_fault_by plan due c result (as_due text is (all_put r e o)) w = absurd (no_write_fault due (sym w ∙ r))
-write_fault_by plan due c result (as_due text is (err_failed r rose e o)) w = inl (rose, o)
-write_fault_by plan due c result (as_due text is (out_failed r rose e o ne)) w =
+write_fault_by plan due c result (as_due text is counts (all_put r e o)) w = absurd (no_write_fault due (sym w ∙ r))
+write_fault_by plan due c result (as_due text is counts (err_failed r rose e o)) w = inl (rose, o)
+write_fault_by plan due c result (as_due text is counts (out_failed r rose e o ne)) w =
     let d = written_only due text is ne in inr (rose, e, d.0, d.1, d.2, text, d.3, o)
 write_fault_by plan due c result (no_memory p pl r o e) w = absurd (let h : status.WriteFault ≡ status.NoMemory = sym w ∙ r in cc)
 write_fault_by plan due c result (failed_read p pl file log f (all_put r e o)) w = absurd (let h : status.WriteFault ≡ status.ReadFault = sym w ∙ r in cc)
@@ -277,9 +280,9 @@ no_memory_due (Limited log hit) e = let h : status.NoMemory ≡ status.Limit = e
 no_memory_due (Written log delivery) e = let h : status.NoMemory ≡ status.Written = e in cc
 
 memory_by : (plan : Result Plan ℕ) (due : Answer) (c : Call) (result : Status) → Outcome plan due c result → result ≡ status.NoMemory → AreRead plan × NothingOnOut c × NothingOnErr c
-memory_by plan due c result (as_due text is (all_put r e o)) m = absurd (no_memory_due due (sym m ∙ r))
-memory_by plan due c result (as_due text is (err_failed r rose e o)) m = absurd (let h : status.NoMemory ≡ status.WriteFault = sym m ∙ r in cc)
-memory_by plan due c result (as_due text is (out_failed r rose e o ne)) m = absurd (let h : status.NoMemory ≡ status.WriteFault = sym m ∙ r in cc)
+memory_by plan due c result (as_due text is counts (all_put r e o)) m = absurd (no_memory_due due (sym m ∙ r))
+memory_by plan due c result (as_due text is counts (err_failed r rose e o)) m = absurd (let h : status.NoMemory ≡ status.WriteFault = sym m ∙ r in cc)
+memory_by plan due c result (as_due text is counts (out_failed r rose e o ne)) m = absurd (let h : status.NoMemory ≡ status.WriteFault = sym m ∙ r in cc)
 memory_by plan due c result (no_memory p pl r o e) m = (are_read plan p pl, o, e)
 memory_by plan due c result (failed_read p pl file log f (all_put r e o)) m = absurd (let h : status.NoMemory ≡ status.ReadFault = sym m ∙ r in cc)
 memory_by plan due c result (failed_read p pl file log f (err_failed r rose e o)) m = absurd (let h : status.NoMemory ≡ status.WriteFault = sym m ∙ r in cc)
@@ -291,9 +294,9 @@ memory plan c result (due, is, out) m = memory_by plan due c result out m
 -- what is due to be written is written
 
 complete_by : (plan : Result Plan ℕ) (due : Answer) (c : Call) (result : Status) → Outcome plan due c result → IsWritten due → NoFault c → (result ≡ status.Written) ⊎ (result ≡ status.NoMemory)
-complete_by plan due c result (as_due text is (all_put r e o)) (log, delivery, w) none = inl (r ∙ ap status_of w)
-complete_by plan due c result (as_due text is (err_failed r rose e o)) w none = absurd (none.err rose)
-complete_by plan due c result (as_due text is (out_failed r rose e o ne)) w none = absurd (none.out rose)
+complete_by plan due c result (as_due text is counts (all_put r e o)) (log, delivery, w) none = inl (r ∙ ap status_of w)
+complete_by plan due c result (as_due text is counts (err_failed r rose e o)) w none = absurd (none.err rose)
+complete_by plan due c result (as_due text is counts (out_failed r rose e o ne)) w none = absurd (none.out rose)
 complete_by plan due c result (no_memory p pl r o e) w none = inr r
 complete_by plan due c result (failed_read p pl file log f sent) w none = absurd (none.read f.rose)
 
@@ -303,9 +306,9 @@ complete plan c result (due, is, out) = (due, is, complete_by plan due c result 
 -- nothing on out otherwise
 
 out_by : (plan : Result Plan ℕ) (due : Answer) (c : Call) (result : Status) → Outcome plan due c result → result ≢ status.Written → result ≢ status.WriteFault → NothingOnOut c
-out_by plan due c result (as_due text is (all_put r e o)) nw nf = due_puts_nothing due text c (λ w. nw (r ∙ w)) is o
-out_by plan due c result (as_due text is (err_failed r rose e o)) nw nf = o
-out_by plan due c result (as_due text is (out_failed r rose e o ne)) nw nf = absurd (nf r)
+out_by plan due c result (as_due text is counts (all_put r e o)) nw nf = due_puts_nothing due text c (λ w. nw (r ∙ w)) is o
+out_by plan due c result (as_due text is counts (err_failed r rose e o)) nw nf = o
+out_by plan due c result (as_due text is counts (out_failed r rose e o ne)) nw nf = absurd (nf r)
 out_by plan due c result (no_memory p pl r o e) nw nf = o
 out_by plan due c result (failed_read p pl file log f (all_put r e o)) nw nf = nothing_put [] c refl o
 out_by plan due c result (failed_read p pl file log f (err_failed r rose e o)) nw nf = o
@@ -313,3 +316,13 @@ out_by plan due c result (failed_read p pl file log f (out_failed r rose e o ne)
 
 pub out : (plan : Result Plan ℕ) (c : Call) (result : Status) → ComesOut plan c result → result ≢ status.Written → result ≢ status.WriteFault → NothingOnOut c
 out plan c result (due, is, comes) = out_by plan due c result comes
+
+-- a read for each name
+
+all_reads_by : (plan : Result Plan ℕ) (due : Answer) (c : Call) (result : Status) → Outcome plan due c result → result ≢ status.NoMemory → (ReadFailed c → ⊥) → ReadsAll plan c
+all_reads_by plan due c result (as_due text is counts sent) nm nf = counts
+all_reads_by plan due c result (no_memory p pl r o e) nm nf = absurd (nm r)
+all_reads_by plan due c result (failed_read p pl file log f sent) nm nf = absurd (nf f.rose)
+
+pub all_reads : (plan : Result Plan ℕ) (c : Call) (result : Status) → ComesOut plan c result → result ≢ status.NoMemory → (ReadFailed c → ⊥) → ReadsAll plan c
+all_reads plan c result (due, is, comes) = all_reads_by plan due c result comes

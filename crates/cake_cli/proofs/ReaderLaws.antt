@@ -1,5 +1,5 @@
 -- Reading, one token further.
-use Rattle.std.proofs.Common.{◌≡◌, ℕ, ◌+◌, ◌==◌, List, ◌∷◌, Option, Some, None, Bool, true, false, if◌then◌else◌, refl, sym, ap, ◌∙◌, drop, slice_get, arith}
+use Rattle.std.proofs.Common.{◌≡◌, ℕ, ◌+◌, ◌==◌, List, Option, Some, None, Bool, true, false, if◌then◌else◌, sym, ap, ◌∙◌, drop, slice_get, arith}
 use Rattle.std.proofs.lemmas.Bool.Decides.{nat_tests}
 use Rattle.cake_base.specs.declared.places.Place.{Place}
 use Rattle.c_model.specs.declared.tokens.CTok.{CTok}

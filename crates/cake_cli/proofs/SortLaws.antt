@@ -1,5 +1,5 @@
 -- Each spelling of a unit is converted into one sort of token, and only it.
-use Rattle.std.proofs.Common.{◌≡◌, ℕ, ◌+◌, ◌==◌, ◌≤◌, List, [], ◌∷◌, ◌++◌, map, take, Bool, true, false, if◌then◌else◌, Result, Ok, Err, ℤ, pos, negsuc, refl, sym, ap, ◌∙◌, subst, arith}
+use Rattle.std.proofs.Common.{◌≡◌, ℕ, ◌+◌, ◌==◌, ◌≤◌, List, [], ◌∷◌, ◌++◌, map, take, Bool, true, false, if◌then◌else◌, Result, Ok, ℤ, pos, negsuc, refl, sym, ap, ◌∙◌, subst, arith}
 use Rattle.std.specs.Prelude.{codes}
 use Rattle.std.specs.Str.{bytes_eq}
 use Rattle.std.proofs.lemmas.Bool.Decides.{nat_tests}
@@ -15,7 +15,7 @@ use Rattle.c_model.specs.declared.tokens.CTok.{CTok}
 use Rattle.c_model.specs.declared.tokens.TokenRule.{TokenRule}
 use Rattle.c_model.specs.Vocabulary.{word_number, punctuator_number}
 use Rattle.c_model.specs.FirstUnit.{spelled, IsSpelled, IsConstant, head_words}
-use Rattle.cake_cli.specs.Sorts.{Sort, IntWord, MainName, OpenParenthesis, VoidWord, CloseParenthesis, OpenBrace, ReturnWord, Constant, Sign, Semicolon, CloseBrace, Other, word_sort, name_sort, int_sort, constant_sort, sign_sort, punctuator_sort, sort_of}
+use Rattle.cake_cli.specs.Sorts.{Sort, IntWord, MainName, OpenParenthesis, VoidWord, CloseParenthesis, OpenBrace, ReturnWord, Constant, Sign, Semicolon, CloseBrace, Other, int_sort, constant_sort, sign_sort, sort_of}
 use Rattle.cake_cli.specs.Reader.{front_rank}
 
 -- ---- the spellings

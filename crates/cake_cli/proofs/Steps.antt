@@ -1,13 +1,13 @@
 -- The reader's steps over many tokens, each by the token that it takes.
-use Rattle.std.proofs.Common.{◌≡◌, ℕ, ◌==◌, List, [], ◌∷◌, ◌++◌, Option, Some, None, Bool, true, if◌then◌else◌, pos, refl, ap, ◌∙◌, arith}
+use Rattle.std.proofs.Common.{◌≡◌, ℕ, ◌==◌, List, [], ◌∷◌, ◌++◌, Option, Some, None, true, if◌then◌else◌, pos, refl, ap, ◌∙◌, arith}
 use Rattle.std.specs.Prelude.{codes}
 use Rattle.std.proofs.lemmas.Bool.Decides.{nat_tests}
 use Rattle.c_model.specs.declared.numbers.BinOp.{BinOp}
 use Rattle.c_model.specs.declared.tokens.CTok.{CTok}
 use Rattle.c_model.specs.Core.{Expr}
 use Rattle.c_model.specs.FirstUnit.{IsSpelled, IsConstant, int_constant}
-use Rattle.cake_cli.specs.Sorts.{Sort, Sign, sort_of}
-use Rattle.cake_cli.specs.Reader.{Stage, Front, Operand, Operator, Tail, Whole, Open, nothing_open, closed, front_rank, past_word, past_begin, past_operand, past_tail, past_sign, read_sort, read_token}
+use Rattle.cake_cli.specs.Sorts.{Sign, sort_of}
+use Rattle.cake_cli.specs.Reader.{Stage, Front, Operand, Operator, Tail, Whole, Open, nothing_open, closed, front_rank, past_word, past_begin, past_operand, past_tail, past_sign, read_token}
 use Rattle.cake_cli.proofs.SortLaws.{open_sort, close_sort, brace_sort, semicolon_sort, number_sort}
 
 abbrev pub bind : Option Stage → (Stage → Option Stage) → Option Stage

@@ -1,5 +1,5 @@
 -- A call of the command, and the answer that is due there.
-use Rattle.std.specs.Prelude.{◌≡◌, ℕ, List, Option, Some, None, Result, Ok, Err}
+use Rattle.std.specs.Prelude.{◌≡◌, ℕ, Option, Some, None, Result, Ok, Err}
 use Rattle.cake_base.specs.Outside.{Held, FilesView, SinkView}
 use Rattle.c_model.specs.Processes.{ReadAnswer, Refusal, Process, gives, refuses, asks}
 use Rattle.c_model.specs.PreprocessedUnit.{Prepared, unit}

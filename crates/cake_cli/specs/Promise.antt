@@ -1,7 +1,7 @@
 -- What the command promises, in the terms that its clauses cite.
-use Rattle.std.specs.Prelude.{◌≡◌, ◌⊎◌, ℕ, List, [], Option, Some, None, Result, Ok, Err}
+use Rattle.std.specs.Prelude.{◌≡◌, ◌⊎◌, ℕ, List, [], length, Option, Some, None, Result, Ok, Err}
 use Rattle.cake_base.specs.Counts.{Rose}
-use Rattle.cake_base.specs.Outside.{FilesView, SinkView, Appends, AppendsPrefix}
+use Rattle.cake_base.specs.Outside.{Held, FilesView, Appends, AppendsPrefix}
 use Rattle.c_model.specs.Core.{Core}
 use Rattle.c_model.specs.Program89.{Program}
 use Rattle.c_model.specs.Reading89.{Reads89}
@@ -12,7 +12,8 @@ use Rattle.c_model.specs.Processes.{Log}
 use Rattle.c_model.specs.ReportLines.{name_in}
 use Rattle.c_model.specs.Words.{Plan}
 use Rattle.c_model.specs.Answer.{Delivery, AText, Tokens, NoText, Answer, Usage, Unreadable, Refused, Unbuilt, Limited, Written, err_text}
-use Rattle.pp_directives.specs.Promise.{Kept, FailsAt}
+use Rattle.c_model.specs.PreprocessedUnit.{asked}
+use Rattle.pp_directives.specs.Promise.{Kept, RoseBy, FailsAt}
 use Rattle.cake_cli.specs.Call.{Call, IsDue}
 use Rattle.cake_cli.specs.declared.status.Status.{Status}
 use Rattle.cake_cli.specs.declared.status.Status.TheVariants as status
@@ -87,11 +88,16 @@ IsLimited (Refused log fault) = ⊥
 IsLimited (Unbuilt log place) = ⊥
 IsLimited (Written log delivery) = ⊥
 
+-- a read that preprocessing asks for failed in this call, and its count of faults rose
+abbrev pub IsFailedRead : Result Plan ℕ → Call → Type 0
+IsFailedRead (Ok plan) c = (file : ℕ) × (log : Log) × FailsAt c.files c.files' plan.options plan.file file log
+IsFailedRead (Err number) c = ⊥
+
 -- a status that may come in place of the one that is due: memory is free where the words have a reading,
 -- and a fault where its count rose
 abbrev pub IsExcused : Status → Result Plan ℕ → Call → Type 0
 IsExcused status.NoMemory plan c = AreRead plan
-IsExcused status.ReadFault plan c = AreRead plan × ReadFailed c
+IsExcused status.ReadFault plan c = IsFailedRead plan c
 IsExcused status.WriteFault plan c = ErrFailed c ⊎ OutFailed c
 IsExcused status.Written plan c = ⊥
 IsExcused status.Refused plan c = ⊥
@@ -151,3 +157,13 @@ pub record NoFault (c : Call) : Type 0 where
 abbrev pub Reads : Result Plan ℕ → Call → Type 0
 Reads (Ok plan) c = Kept c.files c.files'
 Reads (Err number) c = c.files' ≡ c.files
+
+-- there was a read for each name that preprocessing asks for, where the files tell what they hold and how
+-- many reads there were
+abbrev pub ReadsEach : Option Held → Plan → FilesView → FilesView → Type 0
+ReadsEach None plan files files' = Unit {0}
+ReadsEach (Some held) plan files files' = RoseBy (length (asked held plan.options plan.file)) files.calls files'.calls
+
+abbrev pub ReadsAll : Result Plan ℕ → Call → Type 0
+ReadsAll (Ok plan) c = ReadsEach c.files.held plan c.files c.files'
+ReadsAll (Err number) c = Unit {0}

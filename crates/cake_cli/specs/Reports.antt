@@ -1,5 +1,5 @@
 -- What is put, before it is put, and how a call comes out.
-use Rattle.std.specs.Prelude.{◌≡◌, ◌≢◌, ◌⊎◌, ℕ, List, [], Option, Some, None, Result, Ok, Err}
+use Rattle.std.specs.Prelude.{◌≡◌, ◌≢◌, ◌⊎◌, ℕ, List, [], Option, Some, None, Result, Ok}
 use Rattle.c_model.specs.declared.tokens.CTok.{CTok}
 use Rattle.cake_base.specs.declared.places.Place.{Place}
 use Rattle.c_model.specs.declared.words.Mode.{Mode}
@@ -16,7 +16,7 @@ use Rattle.cake_cli.specs.declared.status.Status.{Status}
 use Rattle.cake_cli.specs.declared.status.Status.TheVariants as status
 use Rattle.cake_cli.specs.declared.report.Report.{Report}
 use Rattle.cake_cli.specs.Call.{Call, IsDue}
-use Rattle.cake_cli.specs.Promise.{OutFailed, ErrFailed, NothingOnOut, NothingOnErr, PutsOnOut, PutsOnErr, PutsPrefixOnOut, PutsPrefixOnErr, IsDelivered}
+use Rattle.cake_cli.specs.Promise.{OutFailed, ErrFailed, NothingOnOut, NothingOnErr, PutsOnOut, PutsOnErr, PutsPrefixOnOut, PutsPrefixOnErr, IsDelivered, ReadsEach, ReadsAll}
 
 -- the status of an answer
 abbrev pub status_of : Answer → Status
@@ -69,7 +69,7 @@ unread_answer log file = Unreadable log (name_in log file)
 -- the report of a plan: that of the answer that is due, or on a read that failed
 abbrev pub ReportsPlan : Plan → Call → Report → Type 0
 ReportsPlan plan c r =
-    ((due : Answer) × IsDue (Ok plan) c due × IsReport due r)
+    ((due : Answer) × IsDue (Ok plan) c due × IsReport due r × ReadsEach c.files.held plan c.files c.files')
     ⊎ ((file : ℕ) × (log : Log) × FailsAt c.files c.files' plan.options plan.file file log × IsReport (unread_answer log file) r)
 
 -- both texts were put, err's first, or a put failed
@@ -80,6 +80,6 @@ pub data Sent (wanted : Status) (out_text err_text : List ℕ) (c : Call) (resul
 
 -- the answer that is due was sent, memory was wanted, or a read failed
 pub data Outcome (plan : Result Plan ℕ) (due : Answer) (c : Call) (result : Status) : Type 0 where
-  as_due : (text : List ℕ) → IsOutText due text → Sent (status_of due) text (err_text due) c result → Outcome plan due c result
+  as_due : (text : List ℕ) → IsOutText due text → ReadsAll plan c → Sent (status_of due) text (err_text due) c result → Outcome plan due c result
   no_memory : (p : Plan) → plan ≡ Ok p → result ≡ status.NoMemory → NothingOnOut c → NothingOnErr c → Outcome plan due c result
   failed_read : (p : Plan) → plan ≡ Ok p → (file : ℕ) (log : Log) → FailsAt c.files c.files' p.options p.file file log → Sent status.ReadFault [] (err_text (unread_answer log file)) c result → Outcome plan due c result

@@ -5,7 +5,7 @@ ghost use Rattle.c_model.specs.PreprocessedUnit.{command_lines};
 ghost use Rattle.c_model.specs.Words.{plan};
 ghost use Rattle.pp_directives.specs.Promise.{Kept};
 ghost use Rattle.cake_cli.specs.Call.{call_of};
-ghost use Rattle.cake_cli.specs.Promise.{ForDue, AreRead, AreBad, IsWritten, IsRefused, IsUnreadable, IsLimited, IsExcused, Exactly, PutsText, ErrGets, PutFailed, ReadFailed, NothingOnOut, NothingOnErr, NoFault, Reads};
+ghost use Rattle.cake_cli.specs.Promise.{ForDue, AreRead, AreBad, IsWritten, IsRefused, IsUnreadable, IsLimited, IsExcused, Exactly, PutsText, ErrGets, PutFailed, IsFailedRead, ReadFailed, NothingOnOut, NothingOnErr, NoFault, Reads, ReadsAll};
 ghost use Rattle.cake_cli.specs.Reports.{ReportsPlan, Sent, Outcome};
 ghost use Rattle.cake_cli.specs.WordsRead.{plan_as};
 
@@ -120,7 +120,7 @@ pub fn cake<F: Files, O: Sink, E: Sink>(
     ensures usage { let c = call_of (F.shows files.old) (F.shows files.new) (O.shows out.old) (O.shows out.new) (E.shows err.old) (E.shows err.new) in let p = plan (map string_bytes words.now) in
         Exactly (result ≡ Status.Usage) (AreBad p) (IsExcused result p c) }
     ensures read_fault { let c = call_of (F.shows files.old) (F.shows files.new) (O.shows out.old) (O.shows out.new) (E.shows err.old) (E.shows err.new) in let p = plan (map string_bytes words.now) in
-        ForDue p c (λ due. (result ≡ Status.ReadFault → IsUnreadable due ⊎ (AreRead p × ReadFailed c)) × (IsUnreadable due → (result ≡ Status.ReadFault) ⊎ IsExcused result p c)) }
+        ForDue p c (λ due. (result ≡ Status.ReadFault → IsUnreadable due ⊎ IsFailedRead p c) × (IsUnreadable due → (result ≡ Status.ReadFault) ⊎ IsExcused result p c)) }
     ensures write_fault { let c = call_of (F.shows files.old) (F.shows files.new) (O.shows out.old) (O.shows out.new) (E.shows err.old) (E.shows err.new) in let p = plan (map string_bytes words.now) in
         result ≡ Status.WriteFault → ForDue p c (λ due. PutFailed due c) }
     ensures no_memory { let c = call_of (F.shows files.old) (F.shows files.new) (O.shows out.old) (O.shows out.new) (E.shows err.old) (E.shows err.new) in let p = plan (map string_bytes words.now) in
@@ -137,6 +137,8 @@ pub fn cake<F: Files, O: Sink, E: Sink>(
         result ≢ Status.Written → result ≢ Status.WriteFault → NothingOnOut c }
     ensures reads { let c = call_of (F.shows files.old) (F.shows files.new) (O.shows out.old) (O.shows out.new) (E.shows err.old) (E.shows err.new) in let p = plan (map string_bytes words.now) in
         Reads p c }
+    ensures each_read { let c = call_of (F.shows files.old) (F.shows files.new) (O.shows out.old) (O.shows out.new) (E.shows err.old) (E.shows err.new) in let p = plan (map string_bytes words.now) in
+        result ≢ Status.NoMemory → (ReadFailed c → ⊥) → ReadsAll p c }
 {
     run(alloc, words, files, out, err)
 }

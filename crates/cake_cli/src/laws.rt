@@ -1,11 +1,17 @@
 //! Laws of the command: each function does nothing, and its contract is the law.
-ghost use Rattle.std.specs.Prelude.{◌≡◌, List, Result};
+ghost use Rattle.std.specs.Prelude.{◌≡◌, ℕ, List, Result};
+ghost use Rattle.cake_base.specs.Outside.{Held};
 ghost use Rattle.c_model.specs.declared.tokens.CTok.{CTok};
 ghost use Rattle.c_model.specs.Core.{Core};
 ghost use Rattle.c_model.specs.FirstUnit.{IsUnit};
 ghost use Rattle.c_model.specs.PreprocessedUnit.{Prepared};
 ghost use Rattle.c_model.specs.Processes.{Refusal};
 ghost use Rattle.c_model.specs.Verdict.{Verdict, IsVerdict};
+ghost use Rattle.c_model.specs.Words.{Plan};
+ghost use Rattle.c_model.specs.Answer.{Answer, IsAnswer, IsAnswerIn, err_text};
+ghost use Rattle.cake_cli.specs.Reports.{status_of};
+
+use c_model::words::Mode;
 
 /// Tokens are the unit of one core at most.
 pub fn one_unit()
@@ -20,4 +26,19 @@ pub fn one_verdict()
 /// What preprocessing gives has a verdict.
 pub fn every_verdict()
     ensures { (done : Result Prepared Refusal) → (verdict : Verdict) × IsVerdict done verdict }
+{}
+
+/// Words and files have one answer at most.
+pub fn one_answer()
+    ensures { (plan : Result Plan ℕ) (held : Held) (answer other : Answer) → IsAnswer plan held answer → IsAnswer plan held other → answer ≡ other }
+{}
+
+/// Words and files have an answer.
+pub fn every_answer()
+    ensures { (plan : Result Plan ℕ) (held : Held) → (answer : Answer) × IsAnswer plan held answer }
+{}
+
+/// With `--check` the status and the text on err are those that come without it.
+pub fn check_reports_as_without()
+    ensures { (done : Result Prepared Refusal) (answer other : Answer) → IsAnswerIn Mode.Check done answer → IsAnswerIn Mode.Translate done other → (status_of answer ≡ status_of other) × (err_text answer ≡ err_text other) }
 {}
