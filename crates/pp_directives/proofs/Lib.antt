@@ -5,3 +5,5 @@ pub mod SplitLaws
 pub mod ControlLaws
 pub mod NameLaws
 pub mod SearchLaws
+pub mod HeaderLaws
+pub mod InclusionLaws

@@ -315,13 +315,13 @@ pub line-added : (toks : List PpToken) (from to : ℕ) (ds es whole : List Part)
     es ≡ added_line ds (take (to - from) (drop from toks)) → all_joined ds (parts_of_lines (lines (drop from toks))) ≡ whole → all_joined es (parts_of_lines (lines (drop to toks))) ≡ whole
 line-added toks from to ds es whole h is new so_far = let t = at_exists toks from h in line-joined toks from to t.0 ds es whole t.1 is new so_far
 
-past : (toks : List PpToken) (n : ℕ) → length toks ≤ n → drop n toks ≡ []
-past [] zero h = refl
-past [] (suc n) h = refl
-past (t ∷ ts) zero h = absurd (omega arith)
-past (t ∷ ts) (suc n) h = let k : length ts ≤ n = omega arith in past ts n k
+pub past-end : {A : Type 0} (xs : List A) (n : ℕ) → length xs ≤ n → drop n xs ≡ []
+past-end [] zero h = refl
+past-end [] (suc n) h = refl
+past-end (x ∷ xs) zero h = absurd (omega arith)
+past-end (x ∷ xs) (suc n) h = let k : length xs ≤ n = omega arith in past-end xs n k
 
 pub split-done : (toks : List PpToken) (from : ℕ) (ds : List Part) → length toks ≤ from → Settled ds → all_joined ds (parts_of_lines (lines (drop from toks))) ≡ parts_of_lines (lines toks) →
     ds ≡ parts_of_lines (lines toks)
 split-done toks from ds h s so_far =
-    sym (settled-all ds s) ∙ sym (ap (λ z. all_joined ds (parts_of_lines (lines z))) (past toks from h)) ∙ so_far
+    sym (settled-all ds s) ∙ sym (ap (λ z. all_joined ds (parts_of_lines (lines z))) (past-end toks from h)) ∙ so_far

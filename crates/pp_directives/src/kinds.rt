@@ -1,5 +1,5 @@
 //! The directive that a line is.
-ghost use Rattle.std.specs.Prelude.{◌≡◌};
+ghost use Rattle.std.specs.Prelude.{◌≡◌, ◌≢◌, true, false};
 ghost use Rattle.c_model.specs.Directives as directives;
 
 use c_model::directives::LineKind;
@@ -76,6 +76,34 @@ pub fn is_text(kind: LineKind) -> bool
         LineKind::Else => false,
         LineKind::Endif => false,
         LineKind::Include => false,
+        LineKind::Embed => false,
+        LineKind::Define => false,
+        LineKind::Undef => false,
+        LineKind::Line => false,
+        LineKind::Error => false,
+        LineKind::Warning => false,
+        LineKind::Pragma => false,
+        LineKind::Null => false,
+        LineKind::Unknown => false,
+    }
+}
+
+/// Whether a part of this kind is an include.
+pub fn is_include(kind: LineKind) -> bool
+    ensures yes { result ≡ true → kind ≡ LineKind.Include }
+    ensures no { result ≡ false → kind ≢ LineKind.Include }
+{
+    match kind {
+        LineKind::Include => true,
+        LineKind::Text => false,
+        LineKind::If => false,
+        LineKind::Ifdef => false,
+        LineKind::Ifndef => false,
+        LineKind::Elif => false,
+        LineKind::Elifdef => false,
+        LineKind::Elifndef => false,
+        LineKind::Else => false,
+        LineKind::Endif => false,
         LineKind::Embed => false,
         LineKind::Define => false,
         LineKind::Undef => false,

@@ -16,6 +16,7 @@ use crate::branches::{Test, begin, else_line, endif_line, go_on};
 use crate::conditionals::Conditionals;
 use crate::control::{control_line, fault};
 use crate::errors::PrepError;
+use crate::kinds::is_include;
 use crate::names::{HeaderName, direct_name, replaced_name};
 use crate::options::Options;
 use crate::parts::Part;
@@ -160,7 +161,7 @@ fn line<F: Files>(
 ) -> Result<(), PrepError>
     ensures { Runs (F.shows files.old) (F.shows files.new) (spec.line_of file (included.include_line (included.levels options.now.dirs levels) options.now.dirs file) part.now.kind part.now opened.old unit.old) result (λ _. (opened.new, unit.new)) unit.new.log }
 {
-    if part.kind != LineKind::Include {
+    if !is_include(part.kind) {
         return plain_line(alloc, unit, file, part, opened);
     }
     if opened.is_translated() {

@@ -13,5 +13,8 @@ decreases-line g l = 3 * l.levels + 1
 abbrev pub decreases-translate : goal.decreases-translate
 decreases-translate g l = 3 * l.levels + 2
 
-abbrev pub invariant-translate-loop-part : goal.invariant-loop-part-in-translate
-invariant-translate-loop-part g l = ?
+abbrev pub invariant-translate-loop-part : goal.invariant-translate-loop-part
+invariant-translate-loop-part g l =
+    Reaches (g.F.Files.shows l.initial.files) (g.F.Files.shows l.files)
+    (all_lines l.file (include_line (levels l.options.dirs l.levels) l.options.dirs l.file) l.part-items l.initial.opened l.initial.unit)
+    (all_lines l.file (include_line (levels l.options.dirs l.levels) l.options.dirs l.file) (drop l.part-index l.part-items) l.opened l.unit)

@@ -1,0 +1,46 @@
+-- The built-in headers, one by one.
+use Rattle.std.proofs.Common.{◌≡◌, ℕ, ◌<◌, Bool, true, false, List, ◌∷◌, ◌++◌, [], length, Option, Some, None, refl, ap, sym, ◌∙◌, codes, MatchOption}
+use Rattle.c_model.specs.declared.headers.TheConstants.{STDDEF, STDBOOL, STDINT, LIMITS, STDLIB, STDIO, STRING, CTYPE, ASSERT}
+use Rattle.c_model.specs.Macros.{same_text}
+use Rattle.c_model.specs.Headers.{built_in_text}
+use Rattle.c_model.specs.FileSearch.{shown}
+
+pub is-stddef : (name : List ℕ)  → same_text name (codes "stddef.h") ≡ true → built_in_text name ≡ Some STDDEF.now
+unfolding built_in_text
+is-stddef name h0 = rw (h0) refl
+
+pub is-stdbool : (name : List ℕ) → same_text name (codes "stddef.h") ≡ false → same_text name (codes "stdbool.h") ≡ true → built_in_text name ≡ Some STDBOOL.now
+unfolding built_in_text
+is-stdbool name h0 h1 = rw (h0, h1) refl
+
+pub is-stdint : (name : List ℕ) → same_text name (codes "stddef.h") ≡ false → same_text name (codes "stdbool.h") ≡ false → same_text name (codes "stdint.h") ≡ true → built_in_text name ≡ Some STDINT.now
+unfolding built_in_text
+is-stdint name h0 h1 h2 = rw (h0, h1, h2) refl
+
+pub is-limits : (name : List ℕ) → same_text name (codes "stddef.h") ≡ false → same_text name (codes "stdbool.h") ≡ false → same_text name (codes "stdint.h") ≡ false → same_text name (codes "limits.h") ≡ true → built_in_text name ≡ Some LIMITS.now
+unfolding built_in_text
+is-limits name h0 h1 h2 h3 = rw (h0, h1, h2, h3) refl
+
+pub is-stdlib : (name : List ℕ) → same_text name (codes "stddef.h") ≡ false → same_text name (codes "stdbool.h") ≡ false → same_text name (codes "stdint.h") ≡ false → same_text name (codes "limits.h") ≡ false → same_text name (codes "stdlib.h") ≡ true → built_in_text name ≡ Some STDLIB.now
+unfolding built_in_text
+is-stdlib name h0 h1 h2 h3 h4 = rw (h0, h1, h2, h3, h4) refl
+
+pub is-stdio : (name : List ℕ) → same_text name (codes "stddef.h") ≡ false → same_text name (codes "stdbool.h") ≡ false → same_text name (codes "stdint.h") ≡ false → same_text name (codes "limits.h") ≡ false → same_text name (codes "stdlib.h") ≡ false → same_text name (codes "stdio.h") ≡ true → built_in_text name ≡ Some STDIO.now
+unfolding built_in_text
+is-stdio name h0 h1 h2 h3 h4 h5 = rw (h0, h1, h2, h3, h4, h5) refl
+
+pub is-string : (name : List ℕ) → same_text name (codes "stddef.h") ≡ false → same_text name (codes "stdbool.h") ≡ false → same_text name (codes "stdint.h") ≡ false → same_text name (codes "limits.h") ≡ false → same_text name (codes "stdlib.h") ≡ false → same_text name (codes "stdio.h") ≡ false → same_text name (codes "string.h") ≡ true → built_in_text name ≡ Some STRING.now
+unfolding built_in_text
+is-string name h0 h1 h2 h3 h4 h5 h6 = rw (h0, h1, h2, h3, h4, h5, h6) refl
+
+pub is-ctype : (name : List ℕ) → same_text name (codes "stddef.h") ≡ false → same_text name (codes "stdbool.h") ≡ false → same_text name (codes "stdint.h") ≡ false → same_text name (codes "limits.h") ≡ false → same_text name (codes "stdlib.h") ≡ false → same_text name (codes "stdio.h") ≡ false → same_text name (codes "string.h") ≡ false → same_text name (codes "ctype.h") ≡ true → built_in_text name ≡ Some CTYPE.now
+unfolding built_in_text
+is-ctype name h0 h1 h2 h3 h4 h5 h6 h7 = rw (h0, h1, h2, h3, h4, h5, h6, h7) refl
+
+pub is-assert : (name : List ℕ) → same_text name (codes "stddef.h") ≡ false → same_text name (codes "stdbool.h") ≡ false → same_text name (codes "stdint.h") ≡ false → same_text name (codes "limits.h") ≡ false → same_text name (codes "stdlib.h") ≡ false → same_text name (codes "stdio.h") ≡ false → same_text name (codes "string.h") ≡ false → same_text name (codes "ctype.h") ≡ false → same_text name (codes "assert.h") ≡ true → built_in_text name ≡ Some ASSERT.now
+unfolding built_in_text
+is-assert name h0 h1 h2 h3 h4 h5 h6 h7 h8 = rw (h0, h1, h2, h3, h4, h5, h6, h7, h8) refl
+
+pub is-none : (name : List ℕ) → same_text name (codes "stddef.h") ≡ false → same_text name (codes "stdbool.h") ≡ false → same_text name (codes "stdint.h") ≡ false → same_text name (codes "limits.h") ≡ false → same_text name (codes "stdlib.h") ≡ false → same_text name (codes "stdio.h") ≡ false → same_text name (codes "string.h") ≡ false → same_text name (codes "ctype.h") ≡ false → same_text name (codes "assert.h") ≡ false → built_in_text name ≡ None
+unfolding built_in_text
+is-none name h0 h1 h2 h3 h4 h5 h6 h7 h8 = rw (h0, h1, h2, h3, h4, h5, h6, h7, h8) refl
