@@ -17,6 +17,6 @@ int e;
 #if -7 / 2 == -3 && -7 % 2 == -1 && ~0 == -1
 int f;
 #endif
-#if unknown || true
+#if unknown || !unknown
 int g;
 #endif
