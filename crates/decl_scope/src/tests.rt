@@ -11,6 +11,7 @@ use c_model::types::{Quals, StructId};
 use c_types::{CType, Members, TypeForm, TypeList};
 use cake_base::{Bytes, Fault, NoMemory, Place};
 use std::alloc::Global;
+use std::process::Abort;
 use std::test::Fail;
 
 const PLAIN: Quals = Quals {
@@ -384,9 +385,8 @@ fn leave(scopes: &mut Scopes) {
     }
 }
 
-/// A step that enters, leaves, settles or notes; whether it was one.
-fn go_on(alloc: Global, scopes: &mut Scopes, words: &[&str], line: u32) -> Result<bool, NoMemory> {
-    let (step, name) = (word(words, 0), word(words, 1));
+/// A step that enters or leaves a scope; whether it was one.
+fn nest(scopes: &mut Scopes, step: &str) -> Result<bool, NoMemory> {
     if step == "{" {
         scopes.enter()?;
         return Ok(true);
@@ -399,6 +399,12 @@ fn go_on(alloc: Global, scopes: &mut Scopes, words: &[&str], line: u32) -> Resul
         leave(scopes);
         return Ok(true);
     }
+    Ok(false)
+}
+
+/// A step that settles or notes; whether it was one.
+fn change(alloc: Global, scopes: &mut Scopes, words: &[&str], line: u32) -> Result<bool, NoMemory> {
+    let (step, name) = (word(words, 0), word(words, 1));
     if step == "settle" {
         settle(alloc, scopes, name)?;
         return Ok(true);
@@ -421,15 +427,6 @@ fn line_of(word: &str, line: u32) -> u32 {
 fn note(scopes: &mut Scopes, name: &str, line: u32) {
     if let Some(id) = scopes.look(false, name.as_bytes()) {
         scopes.note_use(id, at(line));
-    }
-}
-
-fn side(outside: bool, defined: bool) -> &'static str {
-    match (outside, defined) {
-        (true, true) => " out+",
-        (true, false) => " out",
-        (false, true) => " in+",
-        (false, false) => " in",
     }
 }
 
@@ -496,7 +493,10 @@ fn take(
         let answer = declare_step(alloc, scopes, words, line);
         return write_answer(alloc, answer, out);
     }
-    if go_on(alloc, scopes, words, line)? {
+    if nest(scopes, word(words, 0))? {
+        return Ok(());
+    }
+    if change(alloc, scopes, words, line)? {
         return Ok(());
     }
     ask(alloc, scopes, words, out)
@@ -517,6 +517,16 @@ fn answers(alloc: Global, script: &str) -> Result<String, Fail> {
     Ok(out)
 }
 
+/// Each script answers what stands beside it.
+fn agree(rt: &impl Abort, alloc: Global, rows: &[(&str, &str)]) -> Result<(), Fail> {
+    for row in rows {
+        let (script, want) = *row;
+        let got = answers(alloc, script)?;
+        assert_eq!(rt; got.as_str(), want, "at {script}");
+    }
+    Ok(())
+}
+
 #[test]
 fn rules_at_their_places(rt: HostRuntime) -> Result<(), Fail> {
     let rows = [
@@ -534,11 +544,7 @@ fn rules_at_their_places(rt: HostRuntime) -> Result<(), Fail> {
         ("static int x|public long x", " 0 C03:2"),
         ("static int exit", " C07:1"),
     ];
-    for (script, want) in rows {
-        let got = answers(rt.alloc(), script)?;
-        assert_eq!(rt; got.as_str(), want, "at {script}");
-    }
-    Ok(())
+    agree(&rt, rt.alloc(), &rows)
 }
 
 #[test]
@@ -566,11 +572,7 @@ fn names_and_ids(rt: HostRuntime) -> Result<(), Fail> {
         // a parameter in the scope of the body
         ("lambda|local int p|local int p|{|local int p", " 0 C02:3 1"),
     ];
-    for (script, want) in rows {
-        let got = answers(rt.alloc(), script)?;
-        assert_eq!(rt; got.as_str(), want, "at {script}");
-    }
-    Ok(())
+    agree(&rt, rt.alloc(), &rows)
 }
 
 #[test]
@@ -594,11 +596,7 @@ fn types_of_redeclarations(rt: HostRuntime) -> Result<(), Fail> {
         ("tag enum1 e {}|tag enum1 e|tag enum1 e {}", " 0 0 C06:3"),
         ("struct s {}|{|tag enum1 s|tagged s|}|tagged s", " 0 1 1 0"),
     ];
-    for (script, want) in rows {
-        let got = answers(rt.alloc(), script)?;
-        assert_eq!(rt; got.as_str(), want, "at {script}");
-    }
-    Ok(())
+    agree(&rt, rt.alloc(), &rows)
 }
 
 #[test]
@@ -632,11 +630,7 @@ fn scopes_and_uses(rt: HostRuntime) -> Result<(), Fail> {
             " 0 1 C08:996 in",
         ),
     ];
-    for (script, want) in rows {
-        let got = answers(rt.alloc(), script)?;
-        assert_eq!(rt; got.as_str(), want, "at {script}");
-    }
-    Ok(())
+    agree(&rt, rt.alloc(), &rows)
 }
 
 /// Declares ints with such a storage word, named by their numbers.
