@@ -81,7 +81,7 @@ fn nested_parts(rt: HostRuntime) -> Result<(), Fail> {
             Nested {
                 before: "int main(void) { return ",
                 part: "(",
-                times: 199,
+                times: 198,
                 after: "0",
             },
             0,
