@@ -8,7 +8,7 @@ ghost use Rattle.c_model.specs.Scopes as m;
 use super::*;
 use c_model::numbers::{Basic, Const};
 use c_model::types::{Quals, StructId};
-use c_types::{CType, Members, TypeForm, TypeList};
+use c_types::{CType, TypeForm, TypeList};
 use cake_base::{Bytes, Fault, NoMemory, Place};
 use std::alloc::Global;
 use std::process::Abort;
@@ -502,18 +502,54 @@ fn take(
     ask(alloc, scopes, words, out)
 }
 
+/// Adds an incomplete structure, where there is room for one.
+fn add_struct(scopes: &mut Scopes, tag: Option<Bytes>, line: u32) -> Result<StructId, NoMemory> {
+    if scopes.structs().count() < u32::MAX {
+        return scopes.add_struct(tag, at(line));
+    }
+    Err(NoMemory)
+}
+
+/// Takes one step of a script.
+fn take_text(
+    alloc: Global,
+    scopes: &mut Scopes,
+    text: &str,
+    line: u32,
+    out: &mut String,
+) -> Result<(), Fail> {
+    let words: Vec<&str> = text.split(' ').collect(alloc)?;
+    take(alloc, scopes, words.as_slice(), line, out)
+}
+
+/// Takes the steps of a script. The nth stands at line n.
+fn take_steps(
+    alloc: Global,
+    scopes: &mut Scopes,
+    steps: &[&str],
+    out: &mut String,
+) -> Result<(), Fail> {
+    let mut line: u32 = 0;
+    for step in steps {
+        line = line.saturating_add(1);
+        take_text(alloc, scopes, step, line, out)?;
+    }
+    Ok(())
+}
+
+/// The scopes of a unit that has a structure.
+fn unit(alloc: Global) -> Result<Scopes, NoMemory> {
+    let mut scopes = Scopes::new(alloc)?;
+    add_struct(&mut scopes, None, 0)?;
+    Ok(scopes)
+}
+
 /// What the steps of a script answer.
 fn answers(alloc: Global, script: &str) -> Result<String, Fail> {
-    let mut scopes = Scopes::new(alloc)?;
-    scopes.add_struct(None, at(0))?;
+    let mut scopes = unit(alloc)?;
     let mut out = String::new(alloc);
-    let mut line: u32 = 0;
     let steps: Vec<&str> = script.split('|').collect(alloc)?;
-    for step in steps.as_slice() {
-        line = line.saturating_add(1);
-        let words: Vec<&str> = step.split(' ').collect(alloc)?;
-        take(alloc, &mut scopes, words.as_slice(), line, &mut out)?;
-    }
+    take_steps(alloc, &mut scopes, steps.as_slice(), &mut out)?;
     Ok(out)
 }
 
@@ -657,19 +693,22 @@ fn a_hundred_thousand_names(rt: HostRuntime) -> Result<(), Fail> {
     Ok(())
 }
 
+/// Draws an id, where one is left.
+fn fresh(scopes: &mut Scopes) -> Option<DeclId> {
+    if scopes.ids() < u32::MAX {
+        return Some(scopes.fresh());
+    }
+    None
+}
+
 #[test]
 fn structures_and_ids(rt: HostRuntime) -> Result<(), Fail> {
     let alloc = rt.alloc();
-    let mut scopes = Scopes::new(alloc)?;
-    assert_eq!(rt; scopes.fresh(), DeclId(0));
+    let mut scopes = unit(alloc)?;
+    assert_eq!(rt; fresh(&mut scopes), Some(DeclId(0)));
     assert_eq!(rt; scopes.ids(), 1);
-    scopes.enter()?;
-    let id = scopes.add_struct(Some(text(alloc, "s")?), at(3))?;
-    let mut members = Members::new(alloc);
-    members.push(text(alloc, "a")?, int(alloc, Basic::Int)?, at(4))?;
-    scopes.complete(id, members);
-    assert_eq!(rt; scopes.structs().is_outer(id), false);
-    let structs = scopes.into_structs();
-    assert_eq!(rt; structs.count(), 1);
+    let tag = text(alloc, "s")?;
+    assert_eq!(rt; add_struct(&mut scopes, Some(tag), 3)?, StructId(1));
+    assert_eq!(rt; scopes.into_structs().count(), 2);
     Ok(())
 }
