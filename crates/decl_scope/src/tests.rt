@@ -678,18 +678,26 @@ fn declare_ints(alloc: Global, scopes: &mut Scopes, storage: &str, count: u32) -
     Ok(())
 }
 
+/// The ids of a name and of a tag, seen from a block that declares a thousand of so many names again.
+fn among_many(alloc: Global, count: u32, name: &[u8]) -> Result<[Option<DeclId>; 3], Fail> {
+    let mut scopes = Scopes::new(alloc)?;
+    declare_ints(alloc, &mut scopes, "public", count)?;
+    scopes.enter()?;
+    declare_ints(alloc, &mut scopes, "extern", 1_000)?;
+    Ok([
+        scopes.look(false, name),
+        scopes.here(false, name),
+        scopes.look(true, name),
+    ])
+}
+
 #[test]
 fn a_hundred_thousand_names(rt: HostRuntime) -> Result<(), Fail> {
     let alloc = rt.alloc();
-    let mut scopes = Scopes::new(alloc)?;
-    declare_ints(alloc, &mut scopes, "public", 100_000)?;
-    scopes.enter()?;
-    declare_ints(alloc, &mut scopes, "extern", 1_000)?;
-    assert_eq!(rt; scopes.here(false, b"n999"), Some(DeclId(999)));
-    assert_eq!(rt; scopes.here(false, b"n1000"), None);
-    assert_eq!(rt; scopes.look(false, b"n99999"), Some(DeclId(99_999)));
-    assert_eq!(rt; scopes.look(true, b"n99999"), None);
-    assert_eq!(rt; scopes.ids(), 100_000);
+    let [seen, here, tag] = among_many(alloc, 100_000, b"n99999")?;
+    assert_eq!(rt; seen, Some(DeclId(99_999)));
+    assert_eq!(rt; here, None);
+    assert_eq!(rt; tag, None);
     Ok(())
 }
 
@@ -701,14 +709,20 @@ fn fresh(scopes: &mut Scopes) -> Option<DeclId> {
     None
 }
 
+/// An id that is drawn, and the structure that is added to that of the unit.
+fn drawn(alloc: Global) -> Result<(Option<DeclId>, StructId, u32), Fail> {
+    let mut scopes = unit(alloc)?;
+    let id = fresh(&mut scopes);
+    let tag = text(alloc, "s")?;
+    let added = add_struct(&mut scopes, Some(tag), 3)?;
+    Ok((id, added, scopes.into_structs().count()))
+}
+
 #[test]
 fn structures_and_ids(rt: HostRuntime) -> Result<(), Fail> {
-    let alloc = rt.alloc();
-    let mut scopes = unit(alloc)?;
-    assert_eq!(rt; fresh(&mut scopes), Some(DeclId(0)));
-    assert_eq!(rt; scopes.ids(), 1);
-    let tag = text(alloc, "s")?;
-    assert_eq!(rt; add_struct(&mut scopes, Some(tag), 3)?, StructId(1));
-    assert_eq!(rt; scopes.into_structs().count(), 2);
+    let (id, added, count) = drawn(rt.alloc())?;
+    assert_eq!(rt; id, Some(DeclId(0)));
+    assert_eq!(rt; added, StructId(1));
+    assert_eq!(rt; count, 2);
     Ok(())
 }
