@@ -8,7 +8,7 @@ ghost use Rattle.c_model.specs.Scopes as m;
 use super::*;
 use c_model::numbers::{Basic, Const};
 use c_model::types::{Quals, StructId};
-use c_types::{CType, Members, TypeForm, TypeList};
+use c_types::{CType, TypeForm, TypeList};
 use cake_base::{Bytes, Fault, NoMemory, Place};
 use std::alloc::Global;
 use std::process::Abort;
@@ -502,18 +502,54 @@ fn take(
     ask(alloc, scopes, words, out)
 }
 
+/// Adds an incomplete structure, where there is room for one.
+fn add_struct(scopes: &mut Scopes, tag: Option<Bytes>, line: u32) -> Result<StructId, NoMemory> {
+    if scopes.structs().count() < u32::MAX {
+        return scopes.add_struct(tag, at(line));
+    }
+    Err(NoMemory)
+}
+
+/// Takes one step of a script.
+fn take_text(
+    alloc: Global,
+    scopes: &mut Scopes,
+    text: &str,
+    line: u32,
+    out: &mut String,
+) -> Result<(), Fail> {
+    let words: Vec<&str> = text.split(' ').collect(alloc)?;
+    take(alloc, scopes, words.as_slice(), line, out)
+}
+
+/// Takes the steps of a script. The nth stands at line n.
+fn take_steps(
+    alloc: Global,
+    scopes: &mut Scopes,
+    steps: &[&str],
+    out: &mut String,
+) -> Result<(), Fail> {
+    let mut line: u32 = 0;
+    for step in steps {
+        line = line.saturating_add(1);
+        take_text(alloc, scopes, step, line, out)?;
+    }
+    Ok(())
+}
+
+/// The scopes of a unit that has a structure.
+fn unit(alloc: Global) -> Result<Scopes, NoMemory> {
+    let mut scopes = Scopes::new(alloc)?;
+    add_struct(&mut scopes, None, 0)?;
+    Ok(scopes)
+}
+
 /// What the steps of a script answer.
 fn answers(alloc: Global, script: &str) -> Result<String, Fail> {
-    let mut scopes = Scopes::new(alloc)?;
-    scopes.add_struct(None, at(0))?;
+    let mut scopes = unit(alloc)?;
     let mut out = String::new(alloc);
-    let mut line: u32 = 0;
     let steps: Vec<&str> = script.split('|').collect(alloc)?;
-    for step in steps.as_slice() {
-        line = line.saturating_add(1);
-        let words: Vec<&str> = step.split(' ').collect(alloc)?;
-        take(alloc, &mut scopes, words.as_slice(), line, &mut out)?;
-    }
+    take_steps(alloc, &mut scopes, steps.as_slice(), &mut out)?;
     Ok(out)
 }
 
@@ -642,34 +678,51 @@ fn declare_ints(alloc: Global, scopes: &mut Scopes, storage: &str, count: u32) -
     Ok(())
 }
 
+/// The ids of a name and of a tag, seen from a block that declares a thousand of so many names again.
+fn among_many(alloc: Global, count: u32, name: &[u8]) -> Result<[Option<DeclId>; 3], Fail> {
+    let mut scopes = Scopes::new(alloc)?;
+    declare_ints(alloc, &mut scopes, "public", count)?;
+    scopes.enter()?;
+    declare_ints(alloc, &mut scopes, "extern", 1_000)?;
+    Ok([
+        scopes.look(false, name),
+        scopes.here(false, name),
+        scopes.look(true, name),
+    ])
+}
+
 #[test]
 fn a_hundred_thousand_names(rt: HostRuntime) -> Result<(), Fail> {
     let alloc = rt.alloc();
-    let mut scopes = Scopes::new(alloc)?;
-    declare_ints(alloc, &mut scopes, "public", 100_000)?;
-    scopes.enter()?;
-    declare_ints(alloc, &mut scopes, "extern", 1_000)?;
-    assert_eq!(rt; scopes.here(false, b"n999"), Some(DeclId(999)));
-    assert_eq!(rt; scopes.here(false, b"n1000"), None);
-    assert_eq!(rt; scopes.look(false, b"n99999"), Some(DeclId(99_999)));
-    assert_eq!(rt; scopes.look(true, b"n99999"), None);
-    assert_eq!(rt; scopes.ids(), 100_000);
+    let [seen, here, tag] = among_many(alloc, 100_000, b"n99999")?;
+    assert_eq!(rt; seen, Some(DeclId(99_999)));
+    assert_eq!(rt; here, None);
+    assert_eq!(rt; tag, None);
     Ok(())
+}
+
+/// Draws an id, where one is left.
+fn fresh(scopes: &mut Scopes) -> Option<DeclId> {
+    if scopes.ids() < u32::MAX {
+        return Some(scopes.fresh());
+    }
+    None
+}
+
+/// An id that is drawn, and the structure that is added to that of the unit.
+fn drawn(alloc: Global) -> Result<(Option<DeclId>, StructId, u32), Fail> {
+    let mut scopes = unit(alloc)?;
+    let id = fresh(&mut scopes);
+    let tag = text(alloc, "s")?;
+    let added = add_struct(&mut scopes, Some(tag), 3)?;
+    Ok((id, added, scopes.into_structs().count()))
 }
 
 #[test]
 fn structures_and_ids(rt: HostRuntime) -> Result<(), Fail> {
-    let alloc = rt.alloc();
-    let mut scopes = Scopes::new(alloc)?;
-    assert_eq!(rt; scopes.fresh(), DeclId(0));
-    assert_eq!(rt; scopes.ids(), 1);
-    scopes.enter()?;
-    let id = scopes.add_struct(Some(text(alloc, "s")?), at(3))?;
-    let mut members = Members::new(alloc);
-    members.push(text(alloc, "a")?, int(alloc, Basic::Int)?, at(4))?;
-    scopes.complete(id, members);
-    assert_eq!(rt; scopes.structs().is_outer(id), false);
-    let structs = scopes.into_structs();
-    assert_eq!(rt; structs.count(), 1);
+    let (id, added, count) = drawn(rt.alloc())?;
+    assert_eq!(rt; id, Some(DeclId(0)));
+    assert_eq!(rt; added, StructId(1));
+    assert_eq!(rt; count, 2);
     Ok(())
 }
