@@ -9,3 +9,4 @@ pub mod HeaderLaws
 pub mod InclusionLaws
 pub mod OptionLaws
 pub mod PromiseLaws
+pub mod UnitLaws

@@ -11,7 +11,7 @@ use Rattle.pp_directives.specs.declared.errors.PrepError.{PrepError}
 use Rattle.pp_directives.specs.declared.errors.PrepError.TheVariants as prep_error
 use Rattle.pp_directives.specs.Reads.{Asked, Answers, Reads, ReadsKeep, After, Reaches}
 use Rattle.pp_directives.specs.Outcomes.{halted, FailsRead, StopsUnread, Stops, Runs}
-use Rattle.pp_directives.specs.Promise.{Prep, with_log, refused, IsDueStop, IsDueAnswer, IsDue, RoseBy, StandsUpTo, FailsAt, FailedRead, Kept}
+use Rattle.pp_directives.specs.Promise.{Prep, with_log, refused, IsDueStop, IsDueAnswer, IsDue, RoseBy, StandsUpTo, FailsAt, FailedRead, Kept, MissedMain, AnswersStop, IsAnswered}
 
 -- ---- an answer is what is held
 
@@ -99,25 +99,23 @@ due-refusal : (old new : FilesView) (held : Held) (options : Options) (name : Li
     preprocessed held options name ≡ refused stop log
 due-refusal old new held options name stop log told (reads, r, after) = among-after old new held (unit options name) (halted stop log) reads told r after
 
-due-stop : (old new : FilesView) (held : Held) (options : Options) (name : List ℕ) (e : PrepError) (log : Log) → old.held ≡ Some held → Stops old new (unit options name) e log →
+due-stop : (old new : FilesView) (held : Held) (options : Options) (name : List ℕ) (e : PrepError) (log : Log) → old.held ≡ Some held → AnswersStop old new options name e log →
     IsDueStop (preprocessed held options name) e log
 due-stop old new held options name (prep_error.Fault fault) log told h = due-refusal old new held options name (broken fault) log told h
 due-stop old new held options name (prep_error.Limit hit) log told h = due-refusal old new held options name (passed hit) log told h
-due-stop old new held options name (prep_error.Read file cause.MainMissing) log told h = due-refusal old new held options name (unread file cause.MainMissing) log told h
+due-stop old new held options name (prep_error.Read file cause.MainMissing) log told h = due-refusal old new held options name (unread file cause.MainMissing) log told h.0
 due-stop old new held options name (prep_error.Read file cause.TooLarge) log told h = due-refusal old new held options name (unread file cause.TooLarge) log told h
 due-stop old new held options name (prep_error.Read file cause.Failed) log told h = tt
 due-stop old new held options name prep_error.NoMemory log told h = tt
 
-due-answer : (old new : FilesView) (held : Held) (options : Options) (name : List ℕ) (result : Result Prep PrepError) (log : Log) → old.held ≡ Some held → Runs old new (unit options name) result (with_log log) log →
+due-answer : (old new : FilesView) (held : Held) (options : Options) (name : List ℕ) (result : Result Prep PrepError) (log : Log) → old.held ≡ Some held → IsAnswered old new options name result log →
     IsDueAnswer (preprocessed held options name) result log
 due-answer old new held options name (Ok p) log told (reads, r, after) = among-after old new held (unit options name) (gives (with_log log p)) reads told r after
 due-answer old new held options name (Err e) log told h = due-stop old new held options name e log told h
 
-pub is-due : (old new : FilesView) (options : Options) (name : List ℕ) (result : Result Prep PrepError) (log : Log) → Runs old new (unit options name) result (with_log log) log → IsDue old.held options name result log
+pub is-due : (old new : FilesView) (options : Options) (name : List ℕ) (result : Result Prep PrepError) (log : Log) → IsAnswered old new options name result log → IsDue old.held options name result log
 is-due old new options name result log h =
-    let by : (told : Option Held) → old.held ≡ told → IsDue told options name result log =
-    λ told. elim told as (λ t. old.held ≡ t → IsDue t options name result log) [ None ↦ λ e. tt | Some held ↦ λ e. due-answer old new held options name result log e h ] in
-    by old.held refl
+    (elim old.held as (λ t. old.held ≡ t → IsDue t options name result log) [ None ↦ λ e. tt | Some held ↦ λ e. due-answer old new held options name result log e h ]) refl
 
 rose-on : (a b c : ℕ) → a ≤ b → Rose b c → Rose a c
 rose-on a b c h r = omega (arith, h, r)
@@ -138,7 +136,7 @@ fails-at old new options name file log h =
       stands = stands old h.mid options name file log h.reads h.name h.next old.held refl h.answered h.after h.stops;
     }
 
-pub failed-read : (old new : FilesView) (options : Options) (name : List ℕ) (result : Result Prep PrepError) (log : Log) → Runs old new (unit options name) result (with_log log) log → FailedRead old new options name result log
+pub failed-read : (old new : FilesView) (options : Options) (name : List ℕ) (result : Result Prep PrepError) (log : Log) → IsAnswered old new options name result log → FailedRead old new options name result log
 failed-read old new options name (Ok p) log h = tt
 failed-read old new options name (Err (prep_error.Fault fault)) log h = tt
 failed-read old new options name (Err (prep_error.Limit hit)) log h = tt
@@ -152,11 +150,20 @@ fails-kept old new options name file log h =
     let kept = reads-kept old h.mid h.reads h.answered in
     record { held = h.keeps.held ∙ kept.held; faults = omega (arith, kept.faults, h.keeps.faults); misses = omega (arith, kept.misses, h.keeps.misses) }
 
-pub all-kept : (old new : FilesView) (options : Options) (name : List ℕ) (result : Result Prep PrepError) (log : Log) → Runs old new (unit options name) result (with_log log) log → Kept old new
+pub all-kept : (old new : FilesView) (options : Options) (name : List ℕ) (result : Result Prep PrepError) (log : Log) → IsAnswered old new options name result log → Kept old new
 all-kept old new options name (Ok p) log (reads, r, after) = reads-kept old new reads r
 all-kept old new options name (Err (prep_error.Fault fault)) log (reads, r, after) = reads-kept old new reads r
 all-kept old new options name (Err (prep_error.Limit hit)) log (reads, r, after) = reads-kept old new reads r
-all-kept old new options name (Err (prep_error.Read file cause.MainMissing)) log (reads, r, after) = reads-kept old new reads r
+all-kept old new options name (Err (prep_error.Read file cause.MainMissing)) log ((reads, r, after), missed) = reads-kept old new reads r
 all-kept old new options name (Err (prep_error.Read file cause.TooLarge)) log (reads, r, after) = reads-kept old new reads r
 all-kept old new options name (Err (prep_error.Read file cause.Failed)) log h = fails-kept old new options name file log h
 all-kept old new options name (Err prep_error.NoMemory) log (n, keeps) = keep-kept old new n keeps
+
+pub missed-main : (old new : FilesView) (options : Options) (name : List ℕ) (result : Result Prep PrepError) (log : Log) → IsAnswered old new options name result log → MissedMain old new result
+missed-main old new options name (Ok p) log h = tt
+missed-main old new options name (Err (prep_error.Fault fault)) log h = tt
+missed-main old new options name (Err (prep_error.Limit hit)) log h = tt
+missed-main old new options name (Err (prep_error.Read file cause.MainMissing)) log h = h.1
+missed-main old new options name (Err (prep_error.Read file cause.TooLarge)) log h = tt
+missed-main old new options name (Err (prep_error.Read file cause.Failed)) log h = tt
+missed-main old new options name (Err prep_error.NoMemory) log h = tt

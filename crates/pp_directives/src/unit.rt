@@ -163,6 +163,7 @@ impl Unit {
         ensures tokens { result.0 ≡ self.tokens }
         ensures marks { result.1 ≡ self.marks }
         ensures log { result.2 ≡ self.log }
+        ensures bound { length result.0 ≤ 1000000 }
     {
         let Unit {
             table: _,
