@@ -6,6 +6,9 @@ use Rattle.cake_base.specs.declared.places.Place.{Place}
 use Rattle.c_model.specs.declared.directives.ReadCause.{ReadCause}
 use Rattle.c_model.specs.declared.directives.ReadCause.TheVariants as cause
 use Rattle.c_model.specs.Processes.{ReadAnswer, NotHeld, Contents, TooLarge, Failed, unread, Log, Process, gives, asks, and_then}
+use Rattle.cake_base.specs.declared.rules.Mark.{Mark}
+use Rattle.c_model.specs.Place.{main_place, behind_all, first_position}
+use Rattle.c_model.specs.PpTokens.{PpToken}
 use Rattle.c_model.specs.Sources.{State}
 use Rattle.c_model.specs.Included.{Deeper, translated}
 use Rattle.c_model.specs.PreprocessedUnit.{Options, Prepared, first_log, beginning, prepared, both_files, whole, main_read, unit}
@@ -97,3 +100,12 @@ unit-gives old mid new options name text s u p log keeps answers is h same =
     let end : finish u ≡ gives (with_log log p) = ap (λ (z : Prepared). let r : Process Prepared = gives z in r) (sym same) in
     reaches-more old mid new _ (whole options name text) _ (whole-reaches old mid options name text keeps answers)
     (reaches-more mid new new _ (finish u) _ (reaches-then mid new (both_files options (beginning options name text)) (gives u) finish there) (reaches-self new _ _ end))
+
+pub same-prepared : (text text' : List ℕ) (u : State) (tokens : List PpToken) (marks : List Mark) (log : Log) (p : Prep) → tokens ≡ u.tokens → marks ≡ u.marks → log ≡ u.log → text' ≡ text →
+    p ≡ record { tokens = tokens; marks = marks; end = main_place (behind_all first_position text') (length tokens) } → with_log log p ≡ prepared text u
+same-prepared text text' u tokens marks log p t m l x is =
+    ap (with_log log) is
+    ∙ ap (λ (z : List ℕ). let r : Prepared = record { tokens = tokens; marks = marks; end = main_place (behind_all first_position z) (length tokens); log = log } in r) x
+    ∙ ap (λ (z : List PpToken). let r : Prepared = record { tokens = z; marks = marks; end = main_place (behind_all first_position text) (length z); log = log } in r) t
+    ∙ ap (λ (z : List Mark). let r : Prepared = record { tokens = u.tokens; marks = z; end = main_place (behind_all first_position text) (length u.tokens); log = log } in r) m
+    ∙ ap (λ (z : Log). let r : Prepared = record { tokens = u.tokens; marks = u.marks; end = main_place (behind_all first_position text) (length u.tokens); log = z } in r) l
