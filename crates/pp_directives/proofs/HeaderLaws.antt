@@ -1,5 +1,6 @@
 -- The built-in headers, one by one.
-use Rattle.std.proofs.Common.{◌≡◌, ℕ, ◌<◌, Bool, true, false, List, ◌∷◌, ◌++◌, [], length, Option, Some, None, refl, ap, sym, ◌∙◌, codes, MatchOption}
+use Rattle.std.proofs.Common.{◌≡◌, ℕ, ◌<◌, Bool, true, false, List, ◌∷◌, ◌++◌, [], length, Option, Some, None, refl, ap, sym, ◌∙◌, subst, codes, MatchOption}
+use lib.Pointwise.{bytes_decides}
 use Rattle.c_model.specs.declared.headers.TheConstants.{STDDEF, STDBOOL, STDINT, LIMITS, STDLIB, STDIO, STRING, CTYPE, ASSERT}
 use Rattle.c_model.specs.Macros.{same_text}
 use Rattle.c_model.specs.Headers.{built_in_text}
@@ -44,3 +45,11 @@ is-assert name h0 h1 h2 h3 h4 h5 h6 h7 h8 = rw (h0, h1, h2, h3, h4, h5, h6, h7, 
 pub is-none : (name : List ℕ) → same_text name (codes "stddef.h") ≡ false → same_text name (codes "stdbool.h") ≡ false → same_text name (codes "stdint.h") ≡ false → same_text name (codes "limits.h") ≡ false → same_text name (codes "stdlib.h") ≡ false → same_text name (codes "stdio.h") ≡ false → same_text name (codes "string.h") ≡ false → same_text name (codes "ctype.h") ≡ false → same_text name (codes "assert.h") ≡ false → built_in_text name ≡ None
 unfolding built_in_text
 is-none name h0 h1 h2 h3 h4 h5 h6 h7 h8 = rw (h0, h1, h2, h3, h4, h5, h6, h7, h8) refl
+
+pub header-of : {B : Type 0} (r : Option B) (f g : B → List ℕ) (name key angle text : List ℕ) → MatchOption r ⊥ (λ b. (f b ≡ angle) × (g b ≡ text)) → same_text name key ≡ true →
+    shown key ≡ angle → built_in_text name ≡ Some text → length text < 65536 →
+    MatchOption r (built_in_text name ≡ None) (λ b. (f b ≡ shown name) × (built_in_text name ≡ Some (g b)) × (length (g b) < 65536))
+header-of None f g name key angle text h same angled is short = absurd h
+header-of (Some b) f g name key angle text h same angled is short =
+    let named : name ≡ key = (bytes_decides name key).0 same in
+    (h.0 ∙ sym angled ∙ ap shown (sym named), is ∙ ap Some (sym h.1), subst (λ z. length z < 65536) (sym h.1) short)

@@ -7,3 +7,6 @@ pub mod NameLaws
 pub mod SearchLaws
 pub mod HeaderLaws
 pub mod InclusionLaws
+pub mod OptionLaws
+pub mod PromiseLaws
+pub mod UnitLaws

@@ -56,7 +56,7 @@ fails-after old mid new p q file log (xs, reads, after) h = record {
 pub stops-after : {A : Type 0} (old mid new : FilesView) (p q : Process A) (e : PrepError) (log : Log) → Reaches old mid p q → Stops mid new q e log → Stops old new p e log
 stops-after old mid new p q (prep_error.Fault fault) log h s = reaches-more old mid new p q _ h s
 stops-after old mid new p q (prep_error.Limit hit) log h s = reaches-more old mid new p q _ h s
-stops-after old mid new p q (prep_error.Read file cause.MainMissing) log h s = reaches-more old mid new p q _ h s
+stops-after old mid new p q (prep_error.Read file cause.MainMissing) log h s = absurd s
 stops-after old mid new p q (prep_error.Read file cause.TooLarge) log h s = reaches-more old mid new p q _ h s
 stops-after old mid new p q (prep_error.Read file cause.Failed) log h s = fails-after old mid new p q file log h s
 stops-after old mid new p q prep_error.NoMemory log (xs, reads, after) (n, keeps) = keep-append old mid new xs n reads keeps
@@ -69,7 +69,7 @@ runs-after old mid new p q (Err e) done log h r = stops-after old mid new p q e 
 pub stops-then : {A B : Type 0} (old new : FilesView) (p : Process A) (f : A → Process B) (e : PrepError) (log : Log) → Stops old new p e log → Stops old new (and_then p f) e log
 stops-then old new p f (prep_error.Fault fault) log s = reaches-then old new p _ f s
 stops-then old new p f (prep_error.Limit hit) log s = reaches-then old new p _ f s
-stops-then old new p f (prep_error.Read file cause.MainMissing) log s = reaches-then old new p _ f s
+stops-then old new p f (prep_error.Read file cause.MainMissing) log s = absurd s
 stops-then old new p f (prep_error.Read file cause.TooLarge) log s = reaches-then old new p _ f s
 stops-then old new p f (prep_error.Read file cause.Failed) log s = record {
   reads = s.reads; mid = s.mid; answered = s.answered; keeps = s.keeps; rose = s.rose; name = s.name;

@@ -45,9 +45,10 @@ pub record FailsRead {A : Type 0} (old new : FilesView) (p : Process A) (file : 
   pub after : After p reads (asks name next)
   pub stops : next Failed ≡ halted (unread file cause.Failed) log
 
+-- only the main file can be missing, which is told apart
 abbrev pub StopsUnread : {A : Type 0} → FilesView → FilesView → Process A → ℕ → ReadCause → Log → Type 0
 StopsUnread old new p file cause.Failed log = FailsRead old new p file log
-StopsUnread old new p file cause.MainMissing log = Refuses old new p (unread file cause.MainMissing) log
+StopsUnread old new p file cause.MainMissing log = ⊥
 StopsUnread old new p file cause.TooLarge log = Refuses old new p (unread file cause.TooLarge) log
 
 abbrev pub Stops : {A : Type 0} → FilesView → FilesView → Process A → PrepError → Log → Type 0

@@ -7,9 +7,10 @@ use Rattle.cake_base.specs.Outside.{Held, FilesView, ReadKeeps}
 use Rattle.c_model.specs.declared.directives.ReadCause.{ReadCause}
 use Rattle.c_model.specs.declared.directives.ReadCause.TheVariants as cause
 use Rattle.c_model.specs.PpTokens.{PpToken}
-use Rattle.c_model.specs.Processes.{NotHeld, TooLarge, Stop, broken, passed, unread, Log, Refusal}
-use Rattle.c_model.specs.PreprocessedUnit.{Options, Prepared, preprocessed, preprocessed_up_to}
-use Rattle.pp_directives.specs.Reads.{Answers}
+use Rattle.c_model.specs.Processes.{NotHeld, TooLarge, Stop, broken, passed, unread, Log, Refusal, gives}
+use Rattle.c_model.specs.PreprocessedUnit.{Options, Prepared, unit, preprocessed, preprocessed_up_to}
+use Rattle.pp_directives.specs.Reads.{Answers, Reaches}
+use Rattle.pp_directives.specs.Outcomes.{Refuses, Stops}
 use Rattle.pp_directives.specs.declared.errors.PrepError.{PrepError}
 use Rattle.pp_directives.specs.declared.errors.PrepError.TheVariants as prep_error
 
@@ -96,6 +97,24 @@ MissedMain old new (Err (prep_error.Read file cause.MainMissing)) = MissesRose o
 MissedMain old new (Err (prep_error.Read file cause.TooLarge)) = Unit {0}
 MissedMain old new (Err (prep_error.Read file cause.Failed)) = Unit {0}
 MissedMain old new (Err prep_error.NoMemory) = Unit {0}
+
+-- ---- what was answered
+
+-- As `Stops` has it; the main file is missing where it was asked for and isn't held.
+abbrev pub AnswersStop : FilesView → FilesView → Options → (name : List ℕ) → PrepError → Log → Type 0
+AnswersStop old new options name (prep_error.Read file cause.MainMissing) log =
+    Refuses old new (unit options name) (unread file cause.MainMissing) log × MissesRose old.held old.misses new.misses
+AnswersStop old new options name (prep_error.Read file cause.TooLarge) log = Stops old new (unit options name) (prep_error.Read file cause.TooLarge) log
+AnswersStop old new options name (prep_error.Read file cause.Failed) log = Stops old new (unit options name) (prep_error.Read file cause.Failed) log
+AnswersStop old new options name (prep_error.Fault fault) log = Stops old new (unit options name) (prep_error.Fault fault) log
+AnswersStop old new options name (prep_error.Limit hit) log = Stops old new (unit options name) (prep_error.Limit hit) log
+AnswersStop old new options name prep_error.NoMemory log = Stops old new (unit options name) prep_error.NoMemory log
+
+-- After the reads of this call, each with an answer as far as the files tell of it, the process of the unit gives
+-- what is answered.
+abbrev pub IsAnswered : FilesView → FilesView → Options → (name : List ℕ) → Result Prep PrepError → Log → Type 0
+IsAnswered old new options name (Ok p) log = Reaches old new (unit options name) (gives (with_log log p))
+IsAnswered old new options name (Err error) log = AnswersStop old new options name error log
 
 -- ---- the main file
 

@@ -101,7 +101,8 @@ impl Output {
 
     /// The list.
     pub fn into_list(self) -> PpList
-        ensures { result ≡ self }
+        ensures value { result ≡ self }
+        ensures bound { length result ≤ 1000000 }
     {
         let Output { tokens } = self;
         tokens

@@ -98,6 +98,18 @@ impl Unit {
     }
 }
 
+/// Adds the line that defines a macro of the command.
+fn push_define(text: &mut Bytes, name: &[u8], value: &[u8]) -> Result<(), NoMemory>
+    ensures { OnOk result (text.new ≡ text.old ++ whole.define_text (name.now, value.now)) }
+{
+    text.push(b"#define ")?;
+    text.push(name)?;
+    text.push(b" ")?;
+    text.push(value)?;
+    text.push(b"\n")?;
+    Ok(())
+}
+
 /// The lines that define the macros of the command.
 fn command_lines(alloc: Global, options: &Options) -> Result<Bytes, NoMemory>
     ensures { IfOk result (λ text. text ≡ whole.command_lines options.now.defines) }
@@ -107,11 +119,7 @@ fn command_lines(alloc: Global, options: &Options) -> Result<Bytes, NoMemory>
         let (Some(name), Some(value)) = (options.name(at), options.value(at)) else {
             return Ok(text);
         };
-        text.push(b"#define ")?;
-        text.push(name)?;
-        text.push(b" ")?;
-        text.push(value)?;
-        text.push(b"\n")?;
+        push_define(&mut text, name, value)?;
     }
     Ok(text)
 }
@@ -155,6 +163,7 @@ impl Unit {
         ensures tokens { result.0 ≡ self.tokens }
         ensures marks { result.1 ≡ self.marks }
         ensures log { result.2 ≡ self.log }
+        ensures bound { length result.0 ≤ 1000000 }
     {
         let Unit {
             table: _,

@@ -5,7 +5,7 @@ ghost use Rattle.c_model.specs.Place as places;
 ghost use Rattle.c_model.specs.PreprocessedUnit as whole;
 ghost use Rattle.c_model.specs.Processes as process;
 ghost use Rattle.pp_directives.specs.Outcomes.{Runs};
-ghost use Rattle.pp_directives.specs.Promise.{IsDue, FailedRead, MissedMain, Kept, with_log, MainUnread};
+ghost use Rattle.pp_directives.specs.Promise.{IsDue, FailedRead, MissedMain, Kept, IsAnswered, MainUnread};
 ghost use Rattle.pp_directives.specs.Reads.{Answers};
 
 use crate::errors::PrepError;
@@ -85,6 +85,22 @@ fn behind_all(text: &[u8]) -> Position
     at
 }
 
+/// The answer for these tokens and marks, where the main file has this text.
+fn prepared(tokens: PpList, marks: Marks, text: &[u8]) -> Prep
+    requires few { length tokens ≤ 1000000 }
+    requires short { length text.now ≤ 16777216 }
+    ensures { result ≡ record { tokens = tokens; marks = marks; end = places.main_place (places.behind_all places.first_position text.now) (length tokens) } }
+{
+    let behind = behind_all(text);
+    let end = Place {
+        file: 0,
+        line: behind.line,
+        column: behind.column,
+        order: tokens.count() as u32,
+    };
+    Prep { tokens, marks, end }
+}
+
 /// Reads the main file.
 fn read_main<F: Files>(alloc: Global, files: &mut F, name: &str) -> Result<Vec<u8>, PrepError>
     ensures keeps { ReadKeeps (F.shows files.old) (F.shows files.new) }
@@ -112,6 +128,27 @@ fn both_files<F: Files>(
 {
     translate(alloc, files, options, unit, 1, MOST_LEVELS)?;
     translate(alloc, files, options, unit, 0, MOST_LEVELS)
+}
+
+/// Preprocesses the unit: what comes of the answers of the files.
+fn prepare<F: Files>(
+    alloc: Global,
+    files: &mut F,
+    options: &Options,
+    name: &str,
+    log: &mut PrepLog,
+) -> Result<Prep, PrepError>
+    requires { length (whole.command_lines options.now.defines) < 4294967295 }
+    ensures { IsAnswered (F.shows files.old) (F.shows files.new) options.now name.now result log.new }
+{
+    *log = first_log(alloc, name)?;
+    let text = read_main(alloc, files, name)?;
+    let mut unit = Unit::new(alloc, options, name, text.as_slice())?;
+    let done = both_files(alloc, files, options, &mut unit);
+    let (tokens, marks, kept) = unit.into_parts();
+    *log = kept;
+    done?;
+    Ok(prepared(tokens, marks, text.as_slice()))
 }
 
 /// Preprocesses the unit of the main file of that name, with its headers (ISO/IEC 9899:2024, 5.1.1.2
@@ -143,22 +180,8 @@ pub fn preprocess<F: Files>(
     // No read changes what the files hold, and no count falls.
     ensures kept { Kept (F.shows files.old) (F.shows files.new) }
 
-    // The same of files that tell nothing: what is due after the answers that they gave.
-    ensures answered { Runs (F.shows files.old) (F.shows files.new) (whole.unit options.now name.now) result (with_log log.new) log.new }
+    // The same of files that tell nothing: what comes of the answers that they gave.
+    ensures answered { IsAnswered (F.shows files.old) (F.shows files.new) options.now name.now result log.new }
 {
-    *log = first_log(alloc, name)?;
-    let text = read_main(alloc, files, name)?;
-    let mut unit = Unit::new(alloc, options, name, text.as_slice())?;
-    let done = both_files(alloc, files, options, &mut unit);
-    let (tokens, marks, kept) = unit.into_parts();
-    *log = kept;
-    done?;
-    let behind = behind_all(text.as_slice());
-    let end = Place {
-        file: 0,
-        line: behind.line,
-        column: behind.column,
-        order: tokens.count() as u32,
-    };
-    Ok(Prep { tokens, marks, end })
+    prepare(alloc, files, options, name, log)
 }
