@@ -21,6 +21,8 @@ mod pragmas;
 mod search;
 mod sources;
 mod taking;
+#[cfg(test)]
+mod tests;
 mod unit;
 mod whole;
 
