@@ -6,7 +6,7 @@ use Rattle.c_model.specs.Macros.{same_text}
 use Rattle.c_model.specs.Headers.{built_in_text}
 use Rattle.c_model.specs.FileSearch.{shown}
 
-pub is-stddef : (name : List ℕ)  → same_text name (codes "stddef.h") ≡ true → built_in_text name ≡ Some STDDEF.now
+pub is-stddef : (name : List ℕ) → same_text name (codes "stddef.h") ≡ true → built_in_text name ≡ Some STDDEF.now
 unfolding built_in_text
 is-stddef name h0 = rw (h0) refl
 

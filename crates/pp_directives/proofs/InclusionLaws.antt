@@ -56,7 +56,6 @@ deep dirs file p s u header at n h there more =
 
 module _ (a b c : FilesView) (dirs : List (List ℕ)) (file : ℕ) (p : Part) (s u : State) (header : HeaderName) (at : Place) (n : ℕ)
     (h : header_of p s ≡ gives (header, u)) (there : at ≡ here s p.at) (more : 0 < n) where
-
   pub include-err : (e : PrepError) (log : Log) → Stops a b (searched at header.name (all_candidates dirs file header u) u) e log → Stops a b (include_line (levels dirs n) dirs file p s) e log
   include-err e log x =
       subst (λ z. Stops a b z e log) (sym (deep dirs file p s u header at n h there more))
@@ -99,7 +98,6 @@ line-included {T} a b file include k p opens s u r log kind taken h =
 -- ---- lines in turn
 
 module _ (a b c : FilesView) (file : ℕ) (include : Part → State → Process State) (items : List Part) (opened0 opened : Conditionals) (s0 s : State) (n : ℕ) where
-
   at_line : (p : Part) → slice_get items n ≡ Some p → Reaches a b (all_lines file include items opened0 s0) (all_lines file include (drop n items) opened s) →
       Reaches a b (all_lines file include items opened0 s0) (and_then (line_of file include p.kind p opened s) (λ v. all_lines file include (drop (n + 1) items) v.0 v.1))
   at_line p here reached =

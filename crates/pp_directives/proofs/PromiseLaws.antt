@@ -89,9 +89,9 @@ risen k (Some n) (Some m) h = let x = h m refl in let same : n ≡ x.0 = let e :
 pub rose-by : (old mid new : FilesView) (reads : List Asked) → Reads old reads mid → ReadKeeps mid new → RoseBy (suc (length reads)) old.calls new.calls
 rose-by old mid new reads r keeps =
     risen (suc (length reads)) old.calls new.calls (λ m told.
-      let last = told-before mid.calls new.calls m keeps.calls told in
-      let before = counted-reads old mid reads last.0 r last.1 in
-      (before.0, before.1, let x = last.2 in let y = before.2 in omega (arith, x, y)))
+    let last = told-before mid.calls new.calls m keeps.calls told in
+    let before = counted-reads old mid reads last.0 r last.1 in
+    (before.0, before.1, let x = last.2 in let y = before.2 in omega (arith, x, y)))
 
 -- ---- the clauses
 

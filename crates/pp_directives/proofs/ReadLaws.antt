@@ -48,9 +48,15 @@ reaches-then old new p q f (xs, reads, after) = (xs, reads, after-then p q xs f 
 
 fails-after : {A : Type 0} (old mid new : FilesView) (p q : Process A) (file : ℕ) (log : Log) → Reaches old mid p q → FailsRead mid new q file log → FailsRead old new p file log
 fails-after old mid new p q file log (xs, reads, after) h = record {
-  reads = xs ++ h.reads; mid = h.mid; answered = reads-append old mid h.mid xs h.reads reads h.answered;
-  keeps = h.keeps; rose = h.rose; name = h.name; next = h.next;
-  after = after-append p q (asks h.name h.next) xs h.reads after h.after; stops = h.stops;
+  reads = xs ++ h.reads;
+  mid = h.mid;
+  answered = reads-append old mid h.mid xs h.reads reads h.answered;
+  keeps = h.keeps;
+  rose = h.rose;
+  name = h.name;
+  next = h.next;
+  after = after-append p q (asks h.name h.next) xs h.reads after h.after;
+  stops = h.stops;
 }
 
 pub stops-after : {A : Type 0} (old mid new : FilesView) (p q : Process A) (e : PrepError) (log : Log) → Reaches old mid p q → Stops mid new q e log → Stops old new p e log
@@ -72,7 +78,12 @@ stops-then old new p f (prep_error.Limit hit) log s = reaches-then old new p _ f
 stops-then old new p f (prep_error.Read file cause.MainMissing) log s = absurd s
 stops-then old new p f (prep_error.Read file cause.TooLarge) log s = reaches-then old new p _ f s
 stops-then old new p f (prep_error.Read file cause.Failed) log s = record {
-  reads = s.reads; mid = s.mid; answered = s.answered; keeps = s.keeps; rose = s.rose; name = s.name;
+  reads = s.reads;
+  mid = s.mid;
+  answered = s.answered;
+  keeps = s.keeps;
+  rose = s.rose;
+  name = s.name;
   next = λ answer. and_then (s.next answer) f;
   after = after-then p (asks s.name s.next) s.reads f s.after;
   stops = ap (λ z. and_then z f) s.stops;

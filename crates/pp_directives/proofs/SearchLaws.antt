@@ -70,7 +70,15 @@ failed-stops old new at name s s' onward (prep_error.Read file why) keeps rose (
     let end : halted (unread (next_file s) cause.Failed) (named name s).log ≡ halted (unread file cause.Failed) s'.log =
     ap (λ n. halted (unread n cause.Failed) (named name s).log) (sym number) ∙ ap (halted (unread file cause.Failed)) (named_log s s' name state) in
     let there : StopsUnread old new p file cause.Failed s'.log = record {
-      reads = []; mid = old; answered = refl; keeps = keeps; rose = rose; name = name; next = read_file at name s onward; after = refl; stops = end;
+      reads = [];
+      mid = old;
+      answered = refl;
+      keeps = keeps;
+      rose = rose;
+      name = name;
+      next = read_file at name s onward;
+      after = refl;
+      stops = end;
     } in
     subst (λ w. StopsUnread old new p file w s'.log) (sym same) there
 failed-stops old new at name s s' onward (prep_error.Fault fault) keeps rose u = absurd u

@@ -158,9 +158,9 @@ one-added d p ps =
     let text : Part = record d { tokens = d.tokens ++ p.tokens } in
     elim (is_text d.kind) as (λ b. is_text d.kind ≡ b → all_joined (cond (b && is_text p.kind) (text ∷ []) (d ∷ p ∷ [])) ps ≡ joined d (joined p ps)) [
       | true ↦ λ h. elim (is_text p.kind) as (λ b. is_text p.kind ≡ b → all_joined (cond b (text ∷ []) (d ∷ p ∷ [])) ps ≡ joined d (joined p ps)) [
-          | true ↦ λ i. runs-joined d p ps h i
-          | false ↦ λ i. refl
-        ] refl
+        | true ↦ λ i. runs-joined d p ps h i
+        | false ↦ λ i. refl
+      ] refl
       | false ↦ λ h. refl
     ] refl
 
@@ -181,7 +181,7 @@ settled-all (d ∷ (e ∷ ds)) s = ap (joined d) (settled-all (e ∷ ds) s.1) �
 headed : (d : Part) (ds : List Part) (p : Part) → Settled (d ∷ ds) → (e : Part) × (es : List Part) × (added (d ∷ ds) p ≡ e ∷ es) × (is_text e.kind ≡ is_text d.kind)
 headed d [] p s =
     elim (is_text d.kind && is_text p.kind) as (λ b. let text : Part = record d { tokens = d.tokens ++ p.tokens } in
-        (e : Part) × (es : List Part) × (cond b (text ∷ []) (d ∷ p ∷ []) ≡ e ∷ es) × (is_text e.kind ≡ is_text d.kind)) [
+    (e : Part) × (es : List Part) × (cond b (text ∷ []) (d ∷ p ∷ []) ≡ e ∷ es) × (is_text e.kind ≡ is_text d.kind)) [
       | true ↦ (record d { tokens = d.tokens ++ p.tokens }, [], refl, refl)
       | false ↦ (d, p ∷ [], refl, refl)
     ]

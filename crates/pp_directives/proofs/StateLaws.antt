@@ -43,8 +43,7 @@ pub marks-kept : (ms all : List Mark) (m : Mark) (p q : ℕ) → all ≡ ms ++ m
     (q ≡ open_pushes 0 all) × (q ≤ length all)
 marks-kept ms all m p q e so_far within is =
     let more = one_more p m.act in
-    let size : length all ≡ length ms + 1 = ap length e ∙ length-append ms (m ∷ []) in
-    (
+    let size : length all ≡ length ms + 1 = ap length e ∙ length-append ms (m ∷ []) in (
       is ∙ ap (λ (n : ℕ). pushes_after n m.act) so_far ∙ sym (pushes-more 0 ms m) ∙ ap (open_pushes 0) (sym e),
       omega (arith, more, size),
     )
@@ -120,8 +119,7 @@ fits-all old new room none is =
 pub hits-limit : (old new : List PpToken) (room : ℕ) (t : PpToken) (p : Place) → slice_get new room ≡ Some t → room ≡ MOST_TOKENS - length old → length old ≤ MOST_TOKENS →
     p ≡ standing MOST_TOKENS t.place → HitsAt (too_many old new) (record { place = p; limit = record { number = 5 } })
 hits-limit old new room t p here is fits at =
-    let sum : MOST_TOKENS ≡ length old + room = omega arith in
-    (
+    let sum : MOST_TOKENS ≡ length old + room = omega arith in (
       standing_token (length old + room) t,
       ranked_from (suc (length old + room)) (drop (suc room) new),
       ap (λ (z : ℕ). drop z (ranked_from (length old) new)) (sym is) ∙ ranked-drop (length old) room new ∙ ap (ranked_from (length old + room)) (at_rank new room t here),

@@ -56,7 +56,15 @@ refuses-main old new options name file cause.TooLarge log keeps number is h =
 refuses-main old new options name file cause.Failed log keeps number is h =
     let end : main_read options name Failed ≡ halted (unread file cause.Failed) log = ap (λ n. halted (unread n cause.Failed) (first_log name)) (sym number) ∙ ap (halted (unread file cause.Failed)) (sym is) in
     record {
-      reads = []; mid = old; answered = refl; keeps = keeps; rose = h; name = name; next = main_read options name; after = unit-asks options name; stops = end;
+      reads = [];
+      mid = old;
+      answered = refl;
+      keeps = keeps;
+      rose = h;
+      name = name;
+      next = main_read options name;
+      after = unit-asks options name;
+      stops = end;
     }
 
 pub main-unread : (old new : FilesView) (options : Options) (name : List ℕ) (e : PrepError) (log : Log) → ReadKeeps old new → log ≡ first_log name → MainUnread old new name e → AnswersStop old new options name e log
@@ -90,7 +98,7 @@ unit-stops old mid new options name text s e log keeps answers is h =
     let there = subst (λ z. Stops mid new (both_files options z) e log) is h in
     told-apart old new options name e log
     (stops-after old mid new _ (whole options name text) e log (whole-reaches old mid options name text keeps answers)
-      (stops-then mid new (both_files options (beginning options name text)) (λ u. gives (prepared text u)) e log there))
+    (stops-then mid new (both_files options (beginning options name text)) (λ u. gives (prepared text u)) e log there))
 
 pub unit-gives : (old mid new : FilesView) (options : Options) (name text : List ℕ) (s u : State) (p : Prep) (log : Log) → ReadKeeps old mid → Answers old mid name (Contents text) → s ≡ beginning options name text →
     Reaches mid new (both_files options s) (gives u) → with_log log p ≡ prepared text u → Reaches old new (unit options name) (gives (with_log log p))

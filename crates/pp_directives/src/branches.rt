@@ -123,11 +123,7 @@ pub fn go_on(
 }
 
 /// `#else`.
-pub fn else_line(
-    unit: &Unit,
-    part: &Part,
-    opened: &mut Conditionals,
-) -> Result<(), PrepError>
+pub fn else_line(unit: &Unit, part: &Part, opened: &mut Conditionals) -> Result<(), PrepError>
     ensures { Does (spec.else_line part.now opened.old unit.now) result (λ _. (opened.new, unit.now)) unit.now.log }
 {
     let conditional = innermost(unit, part, opened)?;
@@ -141,11 +137,7 @@ pub fn else_line(
 }
 
 /// `#endif`.
-pub fn endif_line(
-    unit: &Unit,
-    part: &Part,
-    opened: &mut Conditionals,
-) -> Result<(), PrepError>
+pub fn endif_line(unit: &Unit, part: &Part, opened: &mut Conditionals) -> Result<(), PrepError>
     ensures { Does (spec.endif_line part.now opened.old unit.now) result (λ _. (opened.new, unit.now)) unit.now.log }
 {
     match opened.pop() {

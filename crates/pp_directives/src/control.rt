@@ -161,12 +161,7 @@ fn refused_line(unit: &mut Unit, part: &Part, number: u32) -> Result<(), PrepErr
 }
 
 /// A line of the file of that number, in a group that is translated.
-pub fn control_line(
-    alloc: Global,
-    unit: &mut Unit,
-    file: u32,
-    part: &Part,
-) -> Result<(), PrepError>
+pub fn control_line(alloc: Global, unit: &mut Unit, file: u32, part: &Part) -> Result<(), PrepError>
     ensures { Does (control_of file part.now.kind part.now unit.old) result (λ _. unit.new) unit.new.log }
 {
     match part.kind {

@@ -17,7 +17,6 @@ mod options;
 mod output;
 mod parts;
 mod pragmas;
-
 mod search;
 mod sources;
 mod taking;

@@ -42,12 +42,7 @@ pub fn standing(count: u32, place: Place) -> Place
 }
 
 /// Adds copies of the tokens with their ranks, from this one on.
-fn add_ranked(
-    alloc: Global,
-    tokens: &mut PpList,
-    rank: u32,
-    new: &PpList,
-) -> Result<(), NoMemory>
+fn add_ranked(alloc: Global, tokens: &mut PpList, rank: u32, new: &PpList) -> Result<(), NoMemory>
     requires so_far { length tokens.old ≡ rank }
     requires room { rank + length new.now ≤ 1000000 }
     ensures ok { OnOk result (tokens.new ≡ tokens.old ++ ranked_from rank new.now) }

@@ -80,12 +80,7 @@ pub fn take(
 }
 
 /// Takes the built-in header of that name, or answers P10.
-fn take_built_in(
-    alloc: Global,
-    unit: &mut Unit,
-    at: Place,
-    name: &[u8],
-) -> Result<u32, PrepError>
+fn take_built_in(alloc: Global, unit: &mut Unit, at: Place, name: &[u8]) -> Result<u32, PrepError>
     requires { number_of name.now unit.old.built_in ≡ None }
     ensures { Does (spec.new_built_in at name.now unit.old (built_in_text name.now)) result (λ file. (Some file, unit.new)) unit.new.log }
 {

@@ -7,10 +7,10 @@ ghost use Rattle.c_model.specs.Sources as spec;
 ghost use Rattle.pp_directives.specs.Replaced.{Replaced};
 
 use crate::errors::PrepError;
+use crate::lists::Marks;
 use crate::log::PrepLog;
 use crate::marks::OpenMarks;
 use crate::numbers::FileNumbers;
-use crate::lists::Marks;
 use crate::options::Options;
 use crate::output::{Output, standing};
 use crate::sources::Sources;
@@ -126,12 +126,7 @@ fn command_lines(alloc: Global, options: &Options) -> Result<Bytes, NoMemory>
 
 impl Unit {
     /// The state after the main file of that name was read, which has this text.
-    pub fn new(
-        alloc: Global,
-        options: &Options,
-        name: &str,
-        text: &[u8],
-    ) -> Result<Unit, NoMemory>
+    pub fn new(alloc: Global, options: &Options, name: &str, text: &[u8]) -> Result<Unit, NoMemory>
         requires short { length text.now ≤ 16777216 }
         requires lines { length (whole.command_lines options.now.defines) < 4294967295 }
         ensures { IfOk result (λ unit. unit ≡ whole.beginning options.now name.now text.now) }

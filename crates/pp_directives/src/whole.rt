@@ -9,8 +9,8 @@ ghost use Rattle.pp_directives.specs.Promise.{IsDue, FailedRead, MissedMain, Kep
 ghost use Rattle.pp_directives.specs.Reads.{Answers};
 
 use crate::errors::PrepError;
-use crate::lists::Marks;
 use crate::lines::translate;
+use crate::lists::Marks;
 use crate::log::PrepLog;
 use crate::options::Options;
 use crate::unit::{Unit, first_log};

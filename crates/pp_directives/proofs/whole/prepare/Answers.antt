@@ -25,7 +25,7 @@ returns-in_err-done g c =
     let answers = subst (λ z. Answers a b c.args.name.now (Contents z)) (sym c.as_slice.ensures.value) c.in_ok-text.ensures.text in
     let q = err_from_is_err_and c.from_residual-in_err-done.result c.from_residual-in_err-done.ensures.1 in
     rw (q.1, q.2) (unit-stops a b d c.args.options.now c.args.name.now c.as_slice.result.now c.in_ok-unit.unit c.in_err-done.field-0.0 c.into_parts-tokens.result.2 c.in_ok-text.ensures.keeps answers c.in_ok-unit.ensures
-      (subst (λ z. Stops b d (both_files c.args.options.now c.in_ok-unit.unit) c.in_err-done.field-0.0 z) (sym c.into_parts-tokens.ensures.log) c.in_err-done.ensures))
+    (subst (λ z. Stops b d (both_files c.args.options.now c.in_ok-unit.unit) c.in_err-done.field-0.0 z) (sym c.into_parts-tokens.ensures.log) c.in_err-done.ensures))
 
 pub returns : goal.returns
 returns g c =
@@ -36,4 +36,4 @@ returns g c =
     unit-gives a b d c.args.options.now c.args.name.now c.as_slice.result.now c.in_ok-unit.unit c.both_files-done.new.unit c.prepared.result c.into_parts-tokens.result.2 c.in_ok-text.ensures.keeps answers c.in_ok-unit.ensures
     c.in_ok-done.ensures
     (same-prepared c.as_slice.result.now c.as_slice-2.result.now c.both_files-done.new.unit c.into_parts-tokens.result.0 c.into_parts-tokens.result.1 c.into_parts-tokens.result.2 c.prepared.result
-      c.into_parts-tokens.ensures.tokens c.into_parts-tokens.ensures.marks c.into_parts-tokens.ensures.log (c.as_slice-2.ensures.value ∙ sym c.as_slice.ensures.value) c.prepared.ensures)
+    c.into_parts-tokens.ensures.tokens c.into_parts-tokens.ensures.marks c.into_parts-tokens.ensures.log (c.as_slice-2.ensures.value ∙ sym c.as_slice.ensures.value) c.prepared.ensures)

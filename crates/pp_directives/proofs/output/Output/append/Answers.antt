@@ -8,9 +8,11 @@ pub returns-in-Some : goal.returns-in-Some
 unfolding MOST_TOKENS
 returns-in-Some c =
     let size : length c.args.self.now ≤ 1000000 = omega (arith, c.count-count.ensures.bound, c.count-count.ensures.value) in
-    let room : 1000000 - c.count-count.result ≡ MOST_TOKENS - length c.args.self.now = ap (λ n. 1000000 - n) c.count-count.ensures.value in
-    (hits-limit c.args.self.now c.args.new.now (1000000 - c.count-count.result) c.in-Some.past.now c.standing.result (sym c.in-Some.ensures) room size
-      (c.standing.ensures ∙ ap (λ t. standing 1000000 t.place) c.past.view_is), refl)
+    let room : 1000000 - c.count-count.result ≡ MOST_TOKENS - length c.args.self.now = ap (λ n. 1000000 - n) c.count-count.ensures.value in (
+      hits-limit c.args.self.now c.args.new.now (1000000 - c.count-count.result) c.in-Some.past.now c.standing.result (sym c.in-Some.ensures) room size
+          (c.standing.ensures ∙ ap (λ t. standing 1000000 t.place) c.past.view_is),
+      refl,
+    )
 
 pub add_ranked-requires : goal.add_ranked-requires
 add_ranked-requires c =
@@ -31,8 +33,7 @@ pub returns : goal.returns
 unfolding MOST_TOKENS
 returns c =
     let none : slice_get c.args.new.now (1000000 - c.count-count.result) ≡ None = copied-none _ _ _ c.get.ensures c.in_default.is in
-    let room : 1000000 - c.count-count.result ≡ MOST_TOKENS - length c.args.self.now = ap (λ n. 1000000 - n) c.count-count.ensures.value in
-    (
+    let room : 1000000 - c.count-count.result ≡ MOST_TOKENS - length c.args.self.now = ap (λ n. 1000000 - n) c.count-count.ensures.value in (
       fits-all c.args.self.now c.args.new.now (1000000 - c.count-count.result) none room,
       c.in_ok-add_ranked.ensures.ok ∙ ap (λ z. z ++ ranked_from c.count-count.result c.args.new.now) c.self.view_is ∙ ap (λ n. c.args.self.now ++ ranked_from n c.args.new.now) c.count-count.ensures.value,
     )
