@@ -84,13 +84,13 @@ held_stop (Some h) plan error stop log by due held e = by held (subst (λ x. pp.
 of_stop : (error : PrepError) (stop : Stop) (log : Log) (r : Report) → stop_of error ≡ Some stop → ReportsStop error log r → IsReport (answer_to_stop log stop) r
 of_stop error stop log r e (other, is, report) = subst (λ s. IsReport (answer_to_stop log s) r) (let both : Some other ≡ Some stop = sym is ∙ e in cc) report
 
-pub stop_reported : (plan : Plan) (error : PrepError) (log : Log) (c : Call) (r : Report) → pp.IsDue c.files.held plan.options plan.file (Err error) log → pp.FailedRead c.files c.files' plan.options plan.file (Err error) log → Stops c.files c.files' (unit plan.options plan.file) error log → ReportsStop error log r → ReportsPlan plan c r
+pub stop_reported : (plan : Plan) (error : PrepError) (log : Log) (c : Call) (r : Report) → pp.IsDue c.files.held plan.options plan.file (Err error) log → pp.FailedRead c.files c.files' plan.options plan.file (Err error) log → pp.AnswersStop c.files c.files' plan.options plan.file error log → ReportsStop error log r → ReportsPlan plan c r
 stop_reported plan (prep_error.Fault fault) log c r due failed stops report =
     stopped_reported plan (broken fault) log c r (held_stop c.files.held plan (prep_error.Fault fault) (broken fault) log (λ held is. is) due) stops (of_stop (prep_error.Fault fault) (broken fault) log r refl report)
 stop_reported plan (prep_error.Limit hit) log c r due failed stops report =
     stopped_reported plan (passed hit) log c r (held_stop c.files.held plan (prep_error.Limit hit) (passed hit) log (λ held is. is) due) stops (of_stop (prep_error.Limit hit) (passed hit) log r refl report)
 stop_reported plan (prep_error.Read file cause.MainMissing) log c r due failed stops report =
-    stopped_reported plan (unread file cause.MainMissing) log c r (held_stop c.files.held plan (prep_error.Read file cause.MainMissing) (unread file cause.MainMissing) log (λ held is. is) due) stops (of_stop (prep_error.Read file cause.MainMissing) (unread file cause.MainMissing) log r refl report)
+    stopped_reported plan (unread file cause.MainMissing) log c r (held_stop c.files.held plan (prep_error.Read file cause.MainMissing) (unread file cause.MainMissing) log (λ held is. is) due) stops.0 (of_stop (prep_error.Read file cause.MainMissing) (unread file cause.MainMissing) log r refl report)
 stop_reported plan (prep_error.Read file cause.TooLarge) log c r due failed stops report =
     stopped_reported plan (unread file cause.TooLarge) log c r (held_stop c.files.held plan (prep_error.Read file cause.TooLarge) (unread file cause.TooLarge) log (λ held is. is) due) stops (of_stop (prep_error.Read file cause.TooLarge) (unread file cause.TooLarge) log r refl report)
 stop_reported plan (prep_error.Read file cause.Failed) log c r due failed stops report =

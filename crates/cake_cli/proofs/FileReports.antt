@@ -19,6 +19,6 @@ pub prepared_is_reported : {E : Type 0} (result : Result Report E) (plan : Plan)
 prepared_is_reported (Ok r) plan prep log files files' due answered report = λ out out' err err'. prepared_reported plan prep log (call_of files files' out out' err err') r due answered report
 prepared_is_reported (Err e) plan prep log files files' due answered report = tt
 
-pub stop_is_reported : {E : Type 0} (result : Result Report E) (plan : Plan) (error : PrepError) (log : Log) (files files' : FilesView) → pp.IsDue files.held plan.options plan.file (Err error) log → pp.FailedRead files files' plan.options plan.file (Err error) log → Runs files files' (unit plan.options plan.file) (Err error) (pp.with_log log) log → IfOk result (ReportsStop error log) → IfOk result (Reported plan files files')
+pub stop_is_reported : {E : Type 0} (result : Result Report E) (plan : Plan) (error : PrepError) (log : Log) (files files' : FilesView) → pp.IsDue files.held plan.options plan.file (Err error) log → pp.FailedRead files files' plan.options plan.file (Err error) log → pp.IsAnswered files files' plan.options plan.file (Err error) log → IfOk result (ReportsStop error log) → IfOk result (Reported plan files files')
 stop_is_reported (Ok r) plan error log files files' due failed answered report = λ out out' err err'. stop_reported plan error log (call_of files files' out out' err err') r due failed answered report
 stop_is_reported (Err e) plan error log files files' due failed answered report = tt
