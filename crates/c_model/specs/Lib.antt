@@ -110,6 +110,7 @@ pub mod Untested
 pub mod Preferences
 pub mod DepthPlace
 pub mod OpenTable
+pub mod UnitSyntax
 pub mod TerminalsOf
 pub mod SyntaxValues
 pub mod SyntaxExprActions

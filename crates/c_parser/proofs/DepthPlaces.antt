@@ -13,7 +13,7 @@ use Rattle.c_model.specs.ParserTests.{parsed}
 use Rattle.c_model.specs.TerminalsOf.{terminals_from, terminals_of}
 use Rattle.cake_base.specs.declared.places.Place.{Place}
 use Rattle.cake_base.specs.declared.rules.LimitHit.{LimitHit}
-use Rattle.c_parser.specs.Parsing.{IsTooDeep}
+use Rattle.c_model.specs.UnitSyntax.{IsTooDeep}
 use Rattle.c_parser.specs.Answers.{place_of, IsDepthLimit}
 
 begins_somewhere : (n : Rule) → is_part n ≡ true → (hollow n || mem 0 (firsts n)) ≡ false

@@ -17,7 +17,7 @@ use Rattle.c_parser.specs.declared.reader.Reader.{Reader}
 use Rattle.c_parser.specs.declared.reader.Stop.{Stop}
 use Rattle.c_parser.specs.declared.reader.Stop.TheVariants as stop
 use Rattle.c_parser.specs.Reading.{Read, Told}
-use Rattle.c_parser.specs.Parsing.{unit, IsUnit, IsFault, IsTooDeep}
+use Rattle.c_model.specs.UnitSyntax.{unit, IsUnit, IsFault, IsTooDeep}
 
 pub before_end : decided tables unit (0 ∷ []) ≡ true
 unfolding decided within follows mem

@@ -9,7 +9,7 @@ use Rattle.c_model.specs.declared.grammar.Tree.{Tree}
 use Rattle.c_model.specs.TerminalsOf.{terminals_of}
 use Rattle.c_parser.specs.declared.errors.ParseError.{ParseError}
 use Rattle.c_parser.specs.declared.errors.ParseError.TheVariants as parse_error
-use Rattle.c_parser.specs.Parsing.{IsUnit, IsFault, IsTooDeep}
+use Rattle.c_model.specs.UnitSyntax.{IsUnit, IsFault, IsTooDeep}
 
 -- the place of a token, or the end of the list where there is none
 abbrev pub place_of : Option CTok → Place → Place

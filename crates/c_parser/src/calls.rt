@@ -3,7 +3,7 @@
 ghost use Rattle.std.specs.Prelude.{◌≡◌, slice_get};
 ghost use Rattle.c_model.specs.TerminalsOf.{terminals_of};
 ghost use Rattle.c_parser.specs.Answers.{Answers, place_of, IsSyntaxError, IsDepthLimit};
-ghost use Rattle.c_parser.specs.Parsing.{IsFault, IsTooDeep};
+ghost use Rattle.c_model.specs.UnitSyntax.{IsFault, IsTooDeep};
 
 use crate::errors::ParseError;
 use crate::terminals::terminals;

@@ -1,6 +1,6 @@
 use Rattle.std.proofs.Common.{◌∙◌, sym, arith, eqb-true}
 use Rattle.std.proofs.lemmas.Grind.{common_steps}
-use Rattle.c_parser.specs.Parsing.{unit}
+use Rattle.c_model.specs.UnitSyntax.{unit}
 use Rattle.c_parser.proofs.Parsed.{ok_whole, ok_more, err_fault, read_le, fails_le, before_end, told_fault, told_deep, deep_le, deep_at}
 use Rattle.c_parser.proofs.unit.parse_terminals.Goals as goal
 
