@@ -89,12 +89,15 @@ fn compatible_forms(a: &TypeForm, b: &TypeForm) -> bool
 fn compatible_lists(a: &[CType], b: &[CType]) -> bool
     ensures { result ≡ m.compatible_lists (t.types a.now) (t.types b.now) }
 {
-    match (a, b) {
-        ([], []) => true,
-        ([a, more @ ..], [b, others @ ..]) => {
-            compatible_passed(a, b) && compatible_lists(more, others)
-        }
-        ([], [_, ..]) => false,
-        ([_, ..], []) => false,
+    if a.len() != b.len() {
+        return false;
     }
+    let mut at = 0;
+    for one in a {
+        if !compatible_passed(one, &b[at]) {
+            return false;
+        }
+        at += 1;
+    }
+    true
 }
