@@ -290,7 +290,7 @@ int x = { .x @};
 int x = { x @: 1 };
 typedef int T; int x = { .T = 1 };
 int x = { [1@, 2] = 3 };
-int x = { .@1 = 2 };
+int x = { . @1 = 2 };
 int x = { @= 1 };
 int x = { { { 1 } } };
 int x = 1 = 2;
@@ -442,7 +442,7 @@ x[@]
 x(1,@)
 x(@,1)
 x(@int)
-x.@1
+x. @1
 x->@(y)
 x.T->T
 x.@if
