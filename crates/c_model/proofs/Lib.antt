@@ -52,6 +52,7 @@ pub mod PastDeclarators
 pub mod RegainFunction
 pub mod Loosen
 pub mod RegainUnit
+pub mod ChoiceOrder
 pub mod PpNumberLaws
 pub mod LiteralLaws
 pub mod Releases

@@ -23,7 +23,7 @@ module _ (L : Language) where
   Tree = L.Tree
 
   -- the choices of a derivation from the left; a test makes none
-  pub choices : {f : Form} {s new : State} {ts rest : List Token} {xs : List Tree} → Derives L f s ts xs new rest → List Bool
+  unfoldable pub choices : {f : Form} {s new : State} {ts rest : List Token} {xs : List Tree} → Derives L f s ts xs new rest → List Bool
   choices (Derives.a_word e) = []
   choices (Derives.a_rule d) = choices d
   choices Derives.nothing = []
@@ -40,7 +40,7 @@ module _ (L : Language) where
   choices (Derives.again b d e h) = choices d ++ choices e
 
   -- likewise those of an unfinished derivation
-  pub choices_so_far : {f : Form} {s : State} {ts rest : List Token} → Begins L f s ts rest → List Bool
+  unfoldable pub choices_so_far : {f : Form} {s : State} {ts rest : List Token} → Begins L f s ts rest → List Bool
   choices_so_far Begins.yet = []
   choices_so_far (Begins.in_word e) = []
   choices_so_far (Begins.in_rule d) = choices_so_far d
