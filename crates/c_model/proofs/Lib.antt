@@ -53,6 +53,11 @@ pub mod RegainFunction
 pub mod Loosen
 pub mod RegainUnit
 pub mod ChoiceOrder
+pub mod OpenForms
+pub mod PreferredTests
+pub mod OpenChoices
+pub mod Compared
+pub mod PreferredUnit
 pub mod PpNumberLaws
 pub mod LiteralLaws
 pub mod Releases

@@ -300,7 +300,7 @@ either = rule r.Declared or rule r.Abstract
 abbrev decided : Form
 decided = when test.DeclaratorAhead (rule r.Declared) (rule r.Abstract)
 
-at_specifiers : (s : Scopes) → s.reading.parameter ≡ true → s.brackets ≡ [] → IsAt (AtStart s.reading.typed) s s
+pub at_specifiers : (s : Scopes) → s.reading.parameter ≡ true → s.brackets ≡ [] → IsAt (AtStart s.reading.typed) s s
 unfolding is_inside
 at_specifiers s p c = record { outside = refl; typed = refl; entries = refl; parameter = p; clear = c }
 
@@ -332,7 +332,7 @@ clear_specifiers : clear (rule r.ParamSpecs) true ≡ true
 unfolding clear is_balanced
 clear_specifiers = refl
 
-specifiers_of : {s new : Scopes} {ts rest : List Terminal} {xs : List Tree} → Derives parsed (rule r.ParamSpecs) s ts xs new rest → new.reading.parameter ≡ true
+pub specifiers_of : {s new : Scopes} {ts rest : List Terminal} {xs : List Tree} → Derives parsed (rule r.ParamSpecs) s ts xs new rest → new.reading.parameter ≡ true
 specifiers_of (Derives.a_rule d) = refl
 
 -- the scopes behind the specifiers of a parameter

@@ -37,7 +37,7 @@ use Rattle.c_model.proofs.RegainCast.{cast_expression, unary_expression}
 unchanged : (n : Rule) → open_table n ≡ table n → IsRegained n
 unchanged n q = record { derived = λ s new ts rest xs c d h. record { trees = xs; is = subst (λ f. Derives parsed f s ts xs new rest) q d }; begun = λ s ts rest c d. subst (λ f. Begins parsed f s ts rest) q d }
 
-each : (n : Rule) → IsRegained n
+pub each : (n : Rule) → IsRegained n
 unfolding open_table table
 each r.Params = parameters
 each r.Adirect = abstract_declarator

@@ -78,3 +78,10 @@ pub fn tests_add_no_front()
 pub fn one_preferred()
     ensures { (body : Rule → Form) (test : Test → Scopes → List Terminal → Bool) (form : Form) (s : Scopes) (ts : List Terminal) (xs ys : List Tree) → IsPreferred (record c_language { body = body; test = test }) form s ts xs → IsPreferred (record c_language { body = body; test = test }) form s ts ys → xs ≡ ys }
 {}
+
+/// The parser's tree is the preferred one: no other derivation by the open table takes an optional part, or the
+/// alternative that is written first, where the parser's left it out and all choices before were the same.
+#[tactic(auto, using(crate::proofs::PreferredUnit::preferred))]
+pub fn parsed_is_preferred()
+    ensures { (ts : List Terminal) (xs : List Tree) (new : Scopes) → Derives parsed (rule r.Unit) start ts xs new [] → IsPreferred opened (rule r.Unit) start ts xs }
+{}
