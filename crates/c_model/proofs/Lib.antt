@@ -50,6 +50,7 @@ pub mod ScannedGroups
 pub mod ScannedSpecifiers
 pub mod PastDeclarators
 pub mod RegainFunction
+pub mod RegainAttributes
 pub mod Loosen
 pub mod RegainUnit
 pub mod ChoiceOrder

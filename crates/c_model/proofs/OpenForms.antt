@@ -22,7 +22,7 @@ stays n test.ElseAhead = true
 stays n test.TypeAhead = true
 stays n test.BraceAhead = true
 stays n test.EnumeratorsAhead = true
-stays n test.AttributeAhead = true
+stays r.Suffix test.AttributeAhead = true
 stays n _ = false
 
 unfoldable pub opens_when : Bool → Test → Form → Form → Form

@@ -18,7 +18,7 @@ use Rattle.c_model.specs.ParserTable.{table}
 use Rattle.c_model.specs.ParserSets.{hollow}
 use Rattle.c_model.specs.ParserTests.{parsed, passes}
 use Rattle.c_model.proofs.ClearBrackets.{clear, is_balanced, holds}
-use Rattle.c_model.proofs.BehindAttributes.{specified, declared, alone}
+use Rattle.c_model.proofs.BehindAttributes.{attribute_seen, specified, declared, alone}
 use Rattle.c_model.proofs.RegainTable.{Clear, begins_with, starts}
 use Rattle.c_model.proofs.RegainCommas.{seen, items, names}
 use Rattle.c_model.proofs.RegainParameters.{seen as more_parameters}
@@ -82,6 +82,9 @@ named_taken c = record { holds = λ s new ts rest xs b p d. by (b refl) d }
   where
     by : {s new : Scopes} {ts rest : List Terminal} {xs : List Tree} → s.brackets ≡ [] → Derives parsed named s ts xs new rest → passes test.SpecifiersAhead s ts ≡ true
     by b (Derives.both a (Derives.both d m q2) q1) = specified b a (begins_with refl d)
+
+attributes_taken : (b c : Bool) → IsTaken test.AttributeAhead (rule r.Attr) b c
+attributes_taken b c = record { holds = λ s new ts rest xs b p d. attribute_seen d }
 
 enumerators_taken : (b c : Bool) → IsTaken test.EnumeratorAhead (token k.Comma then rule r.Enumr) b c
 enumerators_taken b c = record { holds = λ s new ts rest xs b p d. seen test.EnumeratorAhead r.Enumr names s new ts rest xs d }
@@ -169,12 +172,12 @@ tested r.Member = IsTested.plainly refl
 tested r.Enum = IsTested.in_then (IsTested.plainly refl) (IsTested.in_then (IsTested.plainly refl) (IsTested.kept_when refl (IsTested.in_then (IsTested.plainly refl) (IsTested.in_then (IsTested.plainly refl) (IsTested.in_then (IsTested.plainly refl) (IsTested.in_then (IsTested.plainly refl) (IsTested.in_then (IsTested.open_loop (enumerators_taken _ false) (IsTested.plainly refl)) (IsTested.plainly refl)))))) (IsTested.plainly refl)))
 tested r.Enumr = IsTested.plainly refl
 tested r.Declarator = IsTested.plainly refl
-tested r.Direct = IsTested.plainly refl
+tested r.Direct = IsTested.in_then (IsTested.in_or (IsTested.in_then (IsTested.plainly refl) (IsTested.open_loop (attributes_taken _ false) (IsTested.plainly refl))) (IsTested.plainly refl)) (IsTested.plainly refl)
 tested r.Suffix = IsTested.plainly refl
 tested r.Params = IsTested.in_then (IsTested.plainly refl) (IsTested.in_then (IsTested.open_loop (parameters_taken _ false) (IsTested.plainly refl)) (IsTested.plainly refl))
 tested r.Param = IsTested.in_then (IsTested.plainly refl) (IsTested.in_then (IsTested.plainly refl) (IsTested.in_maybe (IsTested.open_when declarator_taken (IsTested.plainly refl) (IsTested.plainly refl))))
 tested r.Typename = IsTested.plainly refl
-tested r.Abstract = IsTested.plainly refl
+tested r.Abstract = IsTested.in_or (IsTested.in_then (IsTested.plainly refl) (IsTested.in_then (IsTested.open_loop (attributes_taken _ false) (IsTested.plainly refl)) (IsTested.plainly refl))) (IsTested.plainly refl)
 tested r.Adirect = IsTested.in_then (IsTested.open_when (abstract_taken _ _) (IsTested.plainly refl) (IsTested.plainly refl)) (IsTested.plainly refl)
 tested r.Initdecl = IsTested.plainly refl
 tested r.Init = IsTested.plainly refl

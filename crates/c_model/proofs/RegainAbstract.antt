@@ -172,7 +172,7 @@ choice_derived {s = s} (Derives.right (Derives.a_rule (Derives.left (Derives.bot
 choice_derived {s = s} (Derives.right (Derives.a_rule (Derives.right (Derives.both (Derives.a_word {t = t} {ts = us} e) d p)))) =
     Derives.other (test_false t us (listed_shuts d)) (Derives.a_rule (Derives.right (Derives.both (Derives.a_word e) d p)))
 
-suffix_begun : {s : Scopes} {ts rest : List Terminal} → Begins parsed (rule r.Suffix) s ts rest → Opens ts ⊎ IsLittle ts rest
+pub suffix_begun : {s : Scopes} {ts rest : List Terminal} → Begins parsed (rule r.Suffix) s ts rest → Opens ts ⊎ IsLittle ts rest
 unfolding table
 suffix_begun Begins.yet = inr IsLittle.unread
 suffix_begun (Begins.in_rule Begins.yet) = inr IsLittle.unread
