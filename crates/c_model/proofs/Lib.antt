@@ -50,8 +50,15 @@ pub mod ScannedGroups
 pub mod ScannedSpecifiers
 pub mod PastDeclarators
 pub mod RegainFunction
+pub mod RegainAttributes
 pub mod Loosen
 pub mod RegainUnit
+pub mod ChoiceOrder
+pub mod OpenForms
+pub mod PreferredTests
+pub mod OpenChoices
+pub mod Compared
+pub mod PreferredUnit
 pub mod PpNumberLaws
 pub mod LiteralLaws
 pub mod Releases

@@ -30,7 +30,7 @@ pub data IsLittle : List Terminal → List Terminal → Type 0 where
   unread : {ts : List Terminal} → IsLittle ts ts
   bracket : {t : Terminal} {ts : List Terminal} → (t.kind == 68) ≡ true → IsLittle (t ∷ ts) ts
 
-is_parenthesis : (s : Scopes) (t : Terminal) → mem (kind s t) (66 ∷ []) ≡ true → (t.kind == 66) ≡ true
+pub is_parenthesis : (s : Scopes) (t : Terminal) → mem (kind s t) (66 ∷ []) ≡ true → (t.kind == 66) ≡ true
 unfolding mem
 is_parenthesis s t h = is_it 66 (refl, refl, refl, refl, refl) s t h
 
@@ -92,7 +92,7 @@ in_array {s = s} d = elim (step tables parsed quiet checked d) [
   | inr m ↦ absurd (clash _ m.hollow array_moves)
 ]
 
-abstract_opens : {s new : Scopes} {ts rest : List Terminal} {xs : List Tree} → Derives parsed (rule r.Abstract) s ts xs new rest → Opens ts
+pub abstract_opens : {s new : Scopes} {ts rest : List Terminal} {xs : List Tree} → Derives parsed (rule r.Abstract) s ts xs new rest → Opens ts
 unfolding table
 abstract_opens {s = s} (Derives.a_rule (Derives.left (Derives.both (Derives.a_word {t = t} e) d p))) = by_star t _ (is_star s t e)
 abstract_opens {s = s} (Derives.a_rule (Derives.right (Derives.a_rule (Derives.both (Derives.chosen b (Derives.both (Derives.a_word {t = t} e) d p)) m q)))) = by_parenthesis t _ (is_parenthesis s t e)
@@ -133,7 +133,7 @@ unfolding table
 listed_shuts {s = s} (Derives.both Derives.skip (Derives.both (Derives.a_word {t = u} e) d p) q) = at_close s u _ e
 listed_shuts (Derives.both (Derives.take (Derives.a_rule (Derives.both d m p))) c q) = parameter_shuts d
 
-test_true : (t : Terminal) (us : List Terminal) → (t.kind == 66) ≡ true → Opens us → sees_abstract (t ∷ us) ≡ true
+pub test_true : (t : Terminal) (us : List Terminal) → (t.kind == 66) ≡ true → Opens us → sees_abstract (t ∷ us) ≡ true
 test_true t [] e h = absurd h
 test_true t (u ∷ []) e h = rw (e, h) refl
 test_true t (u ∷ v ∷ ts) e h = rw (e, h) refl
@@ -172,7 +172,7 @@ choice_derived {s = s} (Derives.right (Derives.a_rule (Derives.left (Derives.bot
 choice_derived {s = s} (Derives.right (Derives.a_rule (Derives.right (Derives.both (Derives.a_word {t = t} {ts = us} e) d p)))) =
     Derives.other (test_false t us (listed_shuts d)) (Derives.a_rule (Derives.right (Derives.both (Derives.a_word e) d p)))
 
-suffix_begun : {s : Scopes} {ts rest : List Terminal} → Begins parsed (rule r.Suffix) s ts rest → Opens ts ⊎ IsLittle ts rest
+pub suffix_begun : {s : Scopes} {ts rest : List Terminal} → Begins parsed (rule r.Suffix) s ts rest → Opens ts ⊎ IsLittle ts rest
 unfolding table
 suffix_begun Begins.yet = inr IsLittle.unread
 suffix_begun (Begins.in_rule Begins.yet) = inr IsLittle.unread

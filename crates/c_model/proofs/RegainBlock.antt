@@ -35,14 +35,14 @@ item = rule r.Declaration or rule r.Label or rule r.Statement
 abbrev chosen : Form
 chosen = when test.DeclarationAhead (rule r.Declaration) (when test.LabelAhead (rule r.Label) (rule r.Statement))
 
-by_assertion : (s : Scopes) (ts : List Terminal) → sees_assertion ts ≡ true → passes test.DeclarationAhead s ts ≡ true
+pub by_assertion : (s : Scopes) (ts : List Terminal) → sees_assertion ts ≡ true → passes test.DeclarationAhead s ts ≡ true
 by_assertion s ts h = rw h refl
 
 or_left : (a b : Bool) → (((a || true) || b)) ≡ true
 or_left true b = refl
 or_left false b = refl
 
-by_attributes : (s : Scopes) (ts : List Terminal) → sees_attributes_alone ts ≡ true → passes test.DeclarationAhead s ts ≡ true
+pub by_attributes : (s : Scopes) (ts : List Terminal) → sees_attributes_alone ts ≡ true → passes test.DeclarationAhead s ts ≡ true
 by_attributes s ts h = rw h (or_left (sees_assertion ts) (specifies s ts))
 
 -- the kinds that may come behind the attributes of a label or a statement
@@ -64,7 +64,7 @@ label_seen s [] h = absurd (cc)
 label_seen s (t ∷ ts) h = two (t.kind == 29) (t.kind == 30) (raw (29 ∷ 30 ∷ []) (refl, refl, refl, refl, refl) s t h)
 
 -- a label's attributes
-labelled : {s mid : Scopes} {ts later : List Terminal} {xs : List Tree} → s.brackets ≡ [] → Derives parsed (rule r.Attrs) s ts xs mid later → mem (ahead tables parsed mid later) (29 ∷ 30 ∷ []) ≡ true → passes test.LabelAhead s ts ≡ true
+pub labelled : {s mid : Scopes} {ts later : List Terminal} {xs : List Tree} → s.brackets ≡ [] → Derives parsed (rule r.Attrs) s ts xs mid later → mem (ahead tables parsed mid later) (29 ∷ 30 ∷ []) ≡ true → passes test.LabelAhead s ts ≡ true
 labelled {mid = mid} {later = later} c a h = subst (λ z. sees_label z ≡ true) (sym (open_behind (29 ∷ 30 ∷ []) labels c a h).past) (label_seen mid later h)
 
 no_declaration : {s mid : Scopes} {ts later : List Terminal} {xs : List Tree} → s.brackets ≡ [] → Derives parsed (rule r.Attrs) s ts xs mid later → mem (ahead tables parsed mid later) (29 ∷ 30 ∷ []) ≡ true → passes test.DeclarationAhead s ts ≡ false

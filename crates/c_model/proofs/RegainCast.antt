@@ -62,7 +62,7 @@ scanned s t {mid = mid} {v = v} {us = us} {vs = vs} c e d w =
     over_opening 0 1 t us (opening_kind s t (opens_by s t e)) refl ∙ (p' ∙ last_closing v vs (closing_kind mid v (closes_by mid v w)))
 
 -- it is a cast unless `{` follows
-by_what_follows : (s : Scopes) (t : Terminal) {mid : Scopes} {v : Terminal} {us vs : List Terminal} {xs : List Tree} (b : Bool) → s.brackets ≡ [] → mem (kind s t) (66 ∷ []) ≡ true → Derives parsed (rule r.Typename) (after act.Pass s t) us xs mid (v ∷ vs) → mem (kind mid v) (67 ∷ []) ≡ true → sees 70 vs ≡ b → sees_cast s (t ∷ us) ≡ not b
+pub by_what_follows : (s : Scopes) (t : Terminal) {mid : Scopes} {v : Terminal} {us vs : List Terminal} {xs : List Tree} (b : Bool) → s.brackets ≡ [] → mem (kind s t) (66 ∷ []) ≡ true → Derives parsed (rule r.Typename) (after act.Pass s t) us xs mid (v ∷ vs) → mem (kind mid v) (67 ∷ []) ≡ true → sees 70 vs ≡ b → sees_cast s (t ∷ us) ≡ not b
 unfolding hollow
 by_what_follows s t {us = us} b c e d w h =
     let p : sees 70 (past_brackets 0 (t ∷ us)) ≡ b = ap (λ z. sees 70 z) (scanned s t c e d w) ∙ h in
@@ -81,7 +81,7 @@ braces_brace : firsts r.Braces ≡ 70 ∷ []
 unfolding firsts
 braces_brace = refl
 
-no_brace : (s : Scopes) (ts : List Terminal) → mem (ahead tables parsed s ts) (firsts r.Cast) ≡ true → sees 70 ts ≡ false
+pub no_brace : (s : Scopes) (ts : List Terminal) → mem (ahead tables parsed s ts) (firsts r.Cast) ≡ true → sees 70 ts ≡ false
 unfolding firsts mem
 no_brace s ts h = missing (firsts r.Cast) 70 refl refl refl refl s ts h
 
@@ -135,7 +135,7 @@ by_prefix : (s : Scopes) (ts : List Terminal) → mem (ahead tables parsed s ts)
 unfolding first nullable hollow firsts mem
 by_prefix s ts h = elsewhere (first tables prefixes) refl refl refl s ts h
 
-unary_no_cast : {s new : Scopes} {ts rest : List Terminal} {xs : List Tree} → s.brackets ≡ [] → Derives parsed (rule r.Unary) s ts xs new rest → sees_cast s ts ≡ false
+pub unary_no_cast : {s new : Scopes} {ts rest : List Terminal} {xs : List Tree} → s.brackets ≡ [] → Derives parsed (rule r.Unary) s ts xs new rest → sees_cast s ts ≡ false
 unfolding table
 unary_no_cast c (Derives.a_rule (Derives.left d)) = postfix_no_cast c d
 unary_no_cast {s = s} {ts = ts} c (Derives.a_rule (Derives.right d)) = by_prefix s ts (starts prefixes_move d)

@@ -59,7 +59,7 @@ pub record IsComma (p : Test) (n : Rule) : Type 0 where
   pub last : (s s' : Scopes) (t u : Terminal) (ts : List Terminal) → mem (kind s' u) (71 ∷ []) ≡ true → passes p s (t ∷ u ∷ ts) ≡ false
 
 module _ (p : Test) (n : Rule) (is : IsComma p n) where
-  seen : Seen p (more n)
+  pub seen : Seen p (more n)
   seen s new ts rest xs (Derives.both (Derives.a_word {t = t} {ts = us} e) d q) = is.again s t us e (begins_with is.moves d)
 
   -- a `,` may stand before the last brace
@@ -137,7 +137,7 @@ item_brace s s' u ts e = rw (no_comma s' u e) refl
 item_last : (s s' : Scopes) (t u : Terminal) (ts : List Terminal) → mem (kind s' u) (71 ∷ []) ≡ true → passes test.ItemAhead s (t ∷ u ∷ ts) ≡ false
 item_last s s' t u ts e = rw (is_brace s' u e) (and_not (t.kind == 64))
 
-items : IsComma test.ItemAhead r.Item
+pub items : IsComma test.ItemAhead r.Item
 unfolding hollow
 items = record { moves = refl; again = item_again; brace = item_brace; last = item_last }
 
@@ -216,7 +216,7 @@ enumerator_last s s' t u ts e = rw (no_name s s' u e) (and_false (t.kind == 64))
     and_false true = refl
     and_false false = refl
 
-names : IsComma test.EnumeratorAhead r.Enumr
+pub names : IsComma test.EnumeratorAhead r.Enumr
 unfolding hollow
 names = record { moves = refl; again = enumerator_again; brace = enumerator_brace; last = enumerator_last }
 

@@ -80,7 +80,7 @@ unfolding ahead mem firsts
 body_seen s [] h = absurd (cc)
 body_seen s (t ∷ ts) h = is_it 70 (refl, refl, refl, refl, refl) s t h
 
-function_seen : {s mid m n : Scopes} {ts later more rest : List Terminal} {xs ys zs : List Tree} → s.brackets ≡ [] → Derives parsed (rule r.Attrs) s ts xs mid later → Derives parsed (rule r.Specs) mid later ys m more → Derives parsed (rule r.Declared) m more zs n rest → mem (ahead tables parsed n rest) (firsts r.Body) ≡ true → sees_function s ts ≡ true
+pub function_seen : {s mid m n : Scopes} {ts later more rest : List Terminal} {xs ys zs : List Tree} → s.brackets ≡ [] → Derives parsed (rule r.Attrs) s ts xs mid later → Derives parsed (rule r.Specs) mid later ys m more → Derives parsed (rule r.Declared) m more zs n rest → mem (ahead tables parsed n rest) (firsts r.Body) ≡ true → sees_function s ts ≡ true
 function_seen {n = n} {rest = rest} c a d e h = declared_then c a d e (within_mem tables _ (firsts r.Body) following body_follows h) ∙ body_seen n rest h
 
 object_seen : {s mid m n : Scopes} {ts later more rest : List Terminal} {xs ys zs : List Tree} → s.brackets ≡ [] → Derives parsed (rule r.Attrs) s ts xs mid later → Derives parsed (rule r.Specs) mid later ys m more → Derives parsed (rule r.Declared) m more zs n rest → mem (ahead tables parsed n rest) behind_object ≡ true → sees_function s ts ≡ false

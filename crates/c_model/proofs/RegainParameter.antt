@@ -38,7 +38,7 @@ unfolding mem
 plain68 = (refl, refl, refl, refl, refl)
 
 -- where only a `[` is read, what comes may be an attribute
-attribute_little : {s : Scopes} {ts rest : List Terminal} → Begins parsed (rule r.Attr) s ts rest → (sees_attribute ts ≡ true) ⊎ IsLittle ts rest
+pub attribute_little : {s : Scopes} {ts rest : List Terminal} → Begins parsed (rule r.Attr) s ts rest → (sees_attribute ts ≡ true) ⊎ IsLittle ts rest
 unfolding table
 attribute_little Begins.yet = inr IsLittle.unread
 attribute_little (Begins.in_rule Begins.yet) = inr IsLittle.unread
@@ -49,14 +49,14 @@ attribute_little {s = s} (Begins.in_rule (Begins.in_then (Derives.a_word {t = t}
 attribute_little {s = s} (Begins.in_rule (Begins.in_then (Derives.a_word {t = t} e) (Begins.in_first (Begins.in_word {t = u} e')))) = inl (rw (is_it 68 plain68 s t e, is_it 68 plain68 (after act.Keep s t) u e') refl)
 attribute_little {s = s} (Begins.in_rule (Begins.in_then (Derives.a_word {t = t} e) (Begins.in_then (Derives.a_word {t = u} e') d))) = inl (rw (is_it 68 plain68 s t e, is_it 68 plain68 (after act.Keep s t) u e') refl)
 
-seen : Seen test.AttributeAhead (rule r.Attr)
+pub seen : Seen test.AttributeAhead (rule r.Attr)
 seen s new ts rest xs d = attribute_seen d
 
 -- what may come behind the attributes of an abstract `*`
-abbrev rest_of : Form
+abbrev pub rest_of : Form
 rest_of = many (rule r.Qual) then maybe (rule r.Abstract)
 
-abbrev attributed : Form
+abbrev pub attributed : Form
 attributed = loop test.AttributeAhead (rule r.Attr) then rest_of
 
 by_bracket : (s : Scopes) (u : Terminal) (us : List Terminal) → (u.kind == 68) ≡ true → Begins parsed (rule r.Abstract) s (u ∷ us) us
@@ -74,16 +74,16 @@ in_loop {ts = ts} false b d = elim (attribute_little d) [
   | inr h ↦ little_loop b h
 ]
 
-many_loop : {s : Scopes} {ts rest : List Terminal} → Begins parsed (many (rule r.Attr)) s ts rest → Begins parsed attributed s ts rest
+pub many_loop : {s : Scopes} {ts rest : List Terminal} → Begins parsed (many (rule r.Attr)) s ts rest → Begins parsed attributed s ts rest
 many_loop Begins.yet = Begins.yet
 many_loop {ts = ts} (Begins.in_turn d) = in_loop (sees_attribute ts) refl d
 many_loop (Begins.in_later d e) = ahead_of test.AttributeAhead (rule r.Attr) rest_of seen d (many_loop e)
 
-no_qualifier_attribute : (s : Scopes) (ts : List Terminal) → mem (ahead tables parsed s ts) (firsts r.Qual) ≡ true → sees_attribute ts ≡ false
+pub no_qualifier_attribute : (s : Scopes) (ts : List Terminal) → mem (ahead tables parsed s ts) (firsts r.Qual) ≡ true → sees_attribute ts ≡ false
 unfolding firsts mem
 no_qualifier_attribute s ts h = no_attribute ts (missing (firsts r.Qual) 68 refl refl refl refl s ts h)
 
-attributes_part : {s : Scopes} {ts rest : List Terminal} → Begins parsed (rule r.Attrs then many (rule r.Qual)) s ts rest → Begins parsed attributed s ts rest
+pub attributes_part : {s : Scopes} {ts rest : List Terminal} → Begins parsed (rule r.Attrs then many (rule r.Qual)) s ts rest → Begins parsed attributed s ts rest
 unfolding table first
 attributes_part Begins.yet = Begins.yet
 attributes_part (Begins.in_first Begins.yet) = Begins.yet
@@ -100,11 +100,11 @@ pointer_abstract (Begins.in_first d) = Begins.in_rule (Begins.in_left (Begins.in
 pointer_abstract (Begins.in_then e d) = Begins.in_rule (Begins.in_left (Begins.in_then e (attributes_part d)))
 
 -- one more turn, begun
-extended : {f : Form} {s mid : Scopes} {ts later rest : List Terminal} {xs : List Tree} → Derives parsed (many f) s ts xs mid later → Begins parsed f mid later rest → Begins parsed (many f) s ts rest
+pub extended : {f : Form} {s mid : Scopes} {ts later rest : List Terminal} {xs : List Tree} → Derives parsed (many f) s ts xs mid later → Begins parsed f mid later rest → Begins parsed (many f) s ts rest
 extended Derives.stop b = Begins.in_turn b
 extended (Derives.turn d e _) b = Begins.in_later d (extended e b)
 
-opens_no_attribute : (ts : List Terminal) → sees_attribute ts ≡ true → Opens ts → ⊥
+pub opens_no_attribute : (ts : List Terminal) → sees_attribute ts ≡ true → Opens ts → ⊥
 opens_no_attribute [] h o = o
 opens_no_attribute (t ∷ []) h o = cc
 opens_no_attribute (t ∷ u ∷ ts) h o =
@@ -126,7 +126,7 @@ unfolding table
 with_little m IsLittle.unread = many_loop (begun tables parsed quiet checked m)
 with_little {mid = mid} m (IsLittle.bracket {t = t} h) = many_loop (extended m (Begins.in_rule (Begins.in_first (Begins.in_word (bracket_shown mid t h)))))
 
-behind_many : {s mid m : Scopes} {ts later more rest : List Terminal} {xs ys : List Tree} (b : Bool) → sees_attribute later ≡ b → Derives parsed (many (rule r.Attr)) s ts xs mid later → Derives parsed (many (rule r.Qual)) mid later ys m more → Begins parsed (rule r.Abstract) m more rest → Begins parsed attributed s ts rest
+pub behind_many : {s mid m : Scopes} {ts later more rest : List Terminal} {xs ys : List Tree} (b : Bool) → sees_attribute later ≡ b → Derives parsed (many (rule r.Attr)) s ts xs mid later → Derives parsed (many (rule r.Qual)) mid later ys m more → Begins parsed (rule r.Abstract) m more rest → Begins parsed attributed s ts rest
 unfolding hollow
 behind_many false b m q d = Begins.in_then (looped test.AttributeAhead (rule r.Attr) seen m b) (Begins.in_then q (Begins.in_maybe d))
 behind_many {later = later} true b m Derives.stop d = elim (abstract_begun d) [
@@ -300,7 +300,7 @@ either = rule r.Declared or rule r.Abstract
 abbrev decided : Form
 decided = when test.DeclaratorAhead (rule r.Declared) (rule r.Abstract)
 
-at_specifiers : (s : Scopes) → s.reading.parameter ≡ true → s.brackets ≡ [] → IsAt (AtStart s.reading.typed) s s
+pub at_specifiers : (s : Scopes) → s.reading.parameter ≡ true → s.brackets ≡ [] → IsAt (AtStart s.reading.typed) s s
 unfolding is_inside
 at_specifiers s p c = record { outside = refl; typed = refl; entries = refl; parameter = p; clear = c }
 
@@ -332,7 +332,7 @@ clear_specifiers : clear (rule r.ParamSpecs) true ≡ true
 unfolding clear is_balanced
 clear_specifiers = refl
 
-specifiers_of : {s new : Scopes} {ts rest : List Terminal} {xs : List Tree} → Derives parsed (rule r.ParamSpecs) s ts xs new rest → new.reading.parameter ≡ true
+pub specifiers_of : {s new : Scopes} {ts rest : List Terminal} {xs : List Tree} → Derives parsed (rule r.ParamSpecs) s ts xs new rest → new.reading.parameter ≡ true
 specifiers_of (Derives.a_rule d) = refl
 
 -- the scopes behind the specifiers of a parameter

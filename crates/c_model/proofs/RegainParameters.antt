@@ -42,7 +42,7 @@ no_ellipsis s (t ∷ ts) h = absent (firsts r.Param) 75 refl refl refl refl s t 
 comma_and : (s s' : Scopes) (t : Terminal) (ts : List Terminal) → mem (kind s t) (64 ∷ []) ≡ true → mem (ahead tables parsed s' ts) (firsts r.Param) ≡ true → passes test.ParameterAhead s (t ∷ ts) ≡ true
 comma_and s s' t ts e h = rw (comma s t e, no_ellipsis s' ts h) refl
 
-seen : Seen test.ParameterAhead more
+pub seen : Seen test.ParameterAhead more
 unfolding hollow
 seen s new ts rest xs (Derives.both (Derives.a_word {t = t} {ts = us} e) d q) = comma_and s (after act.NextParameter s t) t us e (begins_with refl d)
 

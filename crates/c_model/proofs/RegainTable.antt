@@ -48,7 +48,7 @@ starts h d = elim (step tables parsed quiet checked d) [
   | inr m ↦ absurd (clash _ m.hollow h)
 ]
 
-steady : (b c : Bool) → (not b || c) ≡ true → b ≡ true → c ≡ true
+pub steady : (b c : Bool) → (not b || c) ≡ true → b ≡ true → c ≡ true
 steady true c h e = h
 steady false c h e = absurd (cc)
 
@@ -57,7 +57,7 @@ into true c h n = refl
 into false true h n = absurd (cc)
 into false false h n = h
 
-inner : (n : Rule) (F : List ℕ) (b : Bool) (s : Scopes) → (within tables F (follows n) && (b || is_balanced n)) ≡ true → Clear b s → Clear (not (is_balanced n)) s
+pub inner : (n : Rule) (F : List ℕ) (b : Bool) (s : Scopes) → (within tables F (follows n) && (b || is_balanced n)) ≡ true → Clear b s → Clear (not (is_balanced n)) s
 inner n F b s w c e = c (into b (is_balanced n) (and_right (within tables F (follows n)) (b || is_balanced n) w) e)
 
 module _ (each : (n : Rule) → IsRegained n) where

@@ -24,6 +24,7 @@ use Rattle.c_model.proofs.Loosen.{loosen, loosen_begun}
 use Rattle.c_model.proofs.OpenFlows.{flows}
 use Rattle.c_model.proofs.ClearBrackets.{is_balanced}
 use Rattle.c_model.proofs.RegainTable.{IsRegained, regain, regain_begun}
+use Rattle.c_model.proofs.RegainAttributes.{direct, pointer}
 use Rattle.c_model.proofs.RegainParameters.{parameters}
 use Rattle.c_model.proofs.RegainPrimary.{primary}
 use Rattle.c_model.proofs.RegainAbstract.{abstract_declarator}
@@ -37,9 +38,11 @@ use Rattle.c_model.proofs.RegainCast.{cast_expression, unary_expression}
 unchanged : (n : Rule) → open_table n ≡ table n → IsRegained n
 unchanged n q = record { derived = λ s new ts rest xs c d h. record { trees = xs; is = subst (λ f. Derives parsed f s ts xs new rest) q d }; begun = λ s ts rest c d. subst (λ f. Begins parsed f s ts rest) q d }
 
-each : (n : Rule) → IsRegained n
+pub each : (n : Rule) → IsRegained n
 unfolding open_table table
+each r.Direct = direct
 each r.Params = parameters
+each r.Abstract = pointer
 each r.Adirect = abstract_declarator
 each r.Braces = braces
 each r.Primary = primary
@@ -125,7 +128,9 @@ loosened n q = record { derived = λ s new ts rest xs d. subst (λ f. Derives op
 
 loose : (n : Rule) → IsLoose n
 unfolding open_table table
+loose r.Direct = loosened r.Direct refl
 loose r.Params = loosened r.Params refl
+loose r.Abstract = loosened r.Abstract refl
 loose r.Adirect = loosened r.Adirect refl
 loose r.Braces = loosened r.Braces refl
 loose r.Primary = loosened r.Primary refl

@@ -1,6 +1,7 @@
 -- Which of several derivations of the same tokens is meant: the one that takes, from the left, each optional part and
--- the alternative that is written first. So `else` belongs to the nearest `if` (ISO/IEC 9899:2024, 6.8.5.2). It is stated of any
--- language; that the tests of the parser's table take these choices is not proved yet.
+-- the alternative that is written first. So attributes with nothing but `;` behind them are a declaration in a block, and
+-- no statement (ISO/IEC 9899:2024, 6.8.3). Of two derivations of a form from the same place one comes earlier, or their
+-- trees are the same, so there is at most one preferred tree. It is stated of any language.
 use Rattle.std.specs.Prelude.{Bool, true, false, List, [], ◌∷◌, ◌++◌}
 use Rattle.c_model.specs.GrammarForm.{Form}
 use Rattle.c_model.specs.Derivation.{Language, Derives, Begins}
@@ -23,7 +24,7 @@ module _ (L : Language) where
   Tree = L.Tree
 
   -- the choices of a derivation from the left; a test makes none
-  pub choices : {f : Form} {s new : State} {ts rest : List Token} {xs : List Tree} → Derives L f s ts xs new rest → List Bool
+  unfoldable pub choices : {f : Form} {s new : State} {ts rest : List Token} {xs : List Tree} → Derives L f s ts xs new rest → List Bool
   choices (Derives.a_word e) = []
   choices (Derives.a_rule d) = choices d
   choices Derives.nothing = []
@@ -40,7 +41,7 @@ module _ (L : Language) where
   choices (Derives.again b d e h) = choices d ++ choices e
 
   -- likewise those of an unfinished derivation
-  pub choices_so_far : {f : Form} {s : State} {ts rest : List Token} → Begins L f s ts rest → List Bool
+  unfoldable pub choices_so_far : {f : Form} {s : State} {ts rest : List Token} → Begins L f s ts rest → List Bool
   choices_so_far Begins.yet = []
   choices_so_far (Begins.in_word e) = []
   choices_so_far (Begins.in_rule d) = choices_so_far d

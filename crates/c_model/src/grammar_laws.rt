@@ -1,12 +1,13 @@
 //! The laws of the grammar: each is the contract of a function that does nothing.
-ghost use Rattle.std.specs.Prelude.{◌≡◌, true, List, []};
+ghost use Rattle.std.specs.Prelude.{◌≡◌, Bool, true, List, []};
 ghost use Rattle.c_model.specs.declared.grammar.Rule.{Rule};
 ghost use Rattle.c_model.specs.declared.grammar.Rule.TheVariants as r;
 ghost use Rattle.c_model.specs.declared.grammar.Terminal.{Terminal};
+ghost use Rattle.c_model.specs.declared.grammar.Test.{Test};
 ghost use Rattle.c_model.specs.declared.grammar.Tree.{Tree};
 ghost use Rattle.c_model.specs.DecidedTable.{table_decided};
 ghost use Rattle.c_model.specs.Derivation.{Derives, Begins};
-ghost use Rattle.c_model.specs.GrammarForm.{rule};
+ghost use Rattle.c_model.specs.GrammarForm.{Form, rule};
 ghost use Rattle.c_model.specs.NameScopes.{Scopes, start};
 ghost use Rattle.c_model.specs.SyntaxTree.{c_language};
 ghost use Rattle.c_model.specs.Grammar.{grammar};
@@ -16,6 +17,7 @@ ghost use Rattle.c_model.specs.ParserSets.{tables};
 ghost use Rattle.c_model.specs.ParserTable.{table};
 ghost use Rattle.c_model.specs.ParserTests.{parsed};
 ghost use Rattle.c_model.specs.ParserWalk.{IsQuiet};
+ghost use Rattle.c_model.specs.Preferences.{IsPreferred};
 
 /// One token, or a test, decides each choice of the parser's table.
 #[tactic(auto, using(crate::proofs::ParserDecided::checked))]
@@ -69,4 +71,17 @@ pub fn tests_add_no_unit()
 #[tactic(auto, using(crate::proofs::RegainUnit::front_back))]
 pub fn tests_add_no_front()
     ensures { (ts rest : List Terminal) → Begins parsed (rule r.Unit) start ts rest → Begins opened (rule r.Unit) start ts rest }
+{}
+
+/// At most one tree is preferred, by the grammar and by any other table and tests.
+#[tactic(auto, using(crate::proofs::ChoiceOrder::one_preferred_tree))]
+pub fn one_preferred()
+    ensures { (body : Rule → Form) (test : Test → Scopes → List Terminal → Bool) (form : Form) (s : Scopes) (ts : List Terminal) (xs ys : List Tree) → IsPreferred (record c_language { body = body; test = test }) form s ts xs → IsPreferred (record c_language { body = body; test = test }) form s ts ys → xs ≡ ys }
+{}
+
+/// The parser's tree is the preferred one: no other derivation by the open table takes an optional part, or the
+/// alternative that is written first, where the parser's left it out and all choices before were the same.
+#[tactic(auto, using(crate::proofs::PreferredUnit::preferred))]
+pub fn parsed_is_preferred()
+    ensures { (ts : List Terminal) (xs : List Tree) (new : Scopes) → Derives parsed (rule r.Unit) start ts xs new [] → IsPreferred opened (rule r.Unit) start ts xs }
 {}

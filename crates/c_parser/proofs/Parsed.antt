@@ -13,6 +13,7 @@ use Rattle.c_model.proofs.DecidedGrammar.{unique, sound, begun, read_so_far, ref
 use Rattle.c_model.proofs.ParserDecided.{quiet, checked}
 use Rattle.c_model.proofs.Forget.{forget_unit, forget_begun_unit}
 use Rattle.c_model.proofs.RegainUnit.{open_fault}
+use Rattle.c_model.proofs.PreferredUnit.{preferred}
 use Rattle.c_parser.specs.declared.reader.Reader.{Reader}
 use Rattle.c_parser.specs.declared.reader.Stop.{Stop}
 use Rattle.c_parser.specs.declared.reader.Stop.TheVariants as stop
@@ -35,6 +36,7 @@ whole d ts rest xs new p e =
       scopes = new;
       derived = forget_unit ts xs new [] s;
       alone = record { scopes = new; derived = s; alone = λ ys z k. (unique tables parsed quiet checked q (0 ∷ []) before_end k (at_end z)).trees };
+      preferred = preferred ts xs new s;
     }
 
 at_least : (n a b : ℕ) → (n < b → ⊥) → b ≤ a → a ≤ (a - b) + n

@@ -1,0 +1,207 @@
+-- The open table is the parser's, but for the tests that stay: in each other place either alternative may be taken.
+use Rattle.std.proofs.Common.{◌≡◌, ℕ, Bool, true, false, not, ◌&&◌, ◌||◌, List, ◌++◌, refl, sym, append-nil}
+use Rattle.std.specs.Prelude.{if◌then◌else◌}
+use Rattle.c_model.specs.declared.grammar.Rule.{Rule}
+use Rattle.c_model.specs.declared.grammar.Rule.TheVariants as r
+use Rattle.c_model.specs.declared.grammar.Test.{Test}
+use Rattle.c_model.specs.declared.grammar.Test.TheVariants as test
+use Rattle.c_model.specs.GrammarForm.{Form, word, rule, empty, ◌then◌, ◌or◌, maybe, many, when, loop}
+use Rattle.c_model.specs.DecidedTable.{nullable, first, leads}
+use Rattle.c_model.specs.Untested.{either}
+use Rattle.c_model.specs.Grammar.{grammar}
+use Rattle.c_model.specs.OpenTable.{open_table}
+use Rattle.c_model.specs.ParserTable.{table}
+use Rattle.c_model.specs.ParserSets.{tables}
+use Rattle.c_model.proofs.ClearBrackets.{clear}
+use Rattle.c_model.proofs.OpenFlows.{flows}
+
+-- the tests that stay in a production
+unfoldable pub stays : Rule → Test → Bool
+stays n test.HasParameters = true
+stays n test.ElseAhead = true
+stays n test.TypeAhead = true
+stays n test.BraceAhead = true
+stays n test.EnumeratorsAhead = true
+stays r.Suffix test.AttributeAhead = true
+stays n _ = false
+
+unfoldable pub opens_when : Bool → Test → Form → Form → Form
+opens_when true p f g = when p f g
+opens_when false p f g = either f g
+
+unfoldable pub opens_loop : Bool → Test → Form → Form
+opens_loop true p f = loop p f
+opens_loop false p f = many f
+
+-- the form with the tests that stay
+unfoldable pub opens : (Test → Bool) → Form → Form
+opens k (word ks a) = word ks a
+opens k (rule n) = rule n
+opens k empty = empty
+opens k (f then g) = opens k f then opens k g
+opens k (f or g) = opens k f or opens k g
+opens k (maybe f) = maybe (opens k f)
+opens k (many f) = many (opens k f)
+opens k (when p f g) = opens_when (k p) p (opens k f) (opens k g)
+opens k (loop p f) = opens_loop (k p) p (opens k f)
+
+pub open_form : (n : Rule) → opens (stays n) (table n) ≡ open_table n
+unfolding opens opens_when opens_loop either stays table open_table grammar
+open_form r.Unit = refl
+open_form r.External = refl
+open_form r.Function = refl
+open_form r.Declaration = refl
+open_form r.Sassert = refl
+open_form r.Attrs = refl
+open_form r.Attr = refl
+open_form r.Specs = refl
+open_form r.Spec = refl
+open_form r.Storage = refl
+open_form r.Typespec = refl
+open_form r.Qual = refl
+open_form r.Squals = refl
+open_form r.Struct = refl
+open_form r.Members = refl
+open_form r.Member = refl
+open_form r.Enum = refl
+open_form r.Enumr = refl
+open_form r.Declarator = refl
+open_form r.Direct = refl
+open_form r.Suffix = refl
+open_form r.Params = refl
+open_form r.Param = refl
+open_form r.Typename = refl
+open_form r.Abstract = refl
+open_form r.Adirect = refl
+open_form r.Initdecl = refl
+open_form r.Init = refl
+open_form r.Braces = refl
+open_form r.Item = refl
+open_form r.Desig = refl
+open_form r.Block = refl
+open_form r.Label = refl
+open_form r.Statement = refl
+open_form r.Expr = refl
+open_form r.Assign = refl
+open_form r.Cond = refl
+open_form r.Oror = refl
+open_form r.Andand = refl
+open_form r.Bor = refl
+open_form r.Bxor = refl
+open_form r.Band = refl
+open_form r.Equal = refl
+open_form r.Rel = refl
+open_form r.Shift = refl
+open_form r.Sum = refl
+open_form r.Product = refl
+open_form r.Cast = refl
+open_form r.Unary = refl
+open_form r.Postfix = refl
+open_form r.Primary = refl
+open_form r.Literal = refl
+open_form r.Balanced = refl
+open_form r.Declared = refl
+open_form r.ParamSpecs = refl
+open_form r.Body = refl
+open_form r.Typeof = refl
+open_form r.If = refl
+open_form r.For = refl
+
+-- what a choice without its test is
+pub data IsEither : Form → Form → Type 0 where
+  part : {f g : Form} → g ≡ empty → either f g ≡ maybe f → IsEither f g
+  choice : {f g : Form} → either f g ≡ (f or g) → IsEither f g
+
+pub is_either : (f g : Form) → IsEither f g
+unfolding either
+is_either f (word ks a) = IsEither.choice refl
+is_either f (rule n) = IsEither.choice refl
+is_either f empty = IsEither.part refl refl
+is_either f (g then h) = IsEither.choice refl
+is_either f (g or h) = IsEither.choice refl
+is_either f (maybe g) = IsEither.choice refl
+is_either f (many g) = IsEither.choice refl
+is_either f (when p g h) = IsEither.choice refl
+is_either f (loop p g) = IsEither.choice refl
+
+or_true : (a : Bool) → (a || true) ≡ true
+or_true true = refl
+or_true false = refl
+
+and_true : (a : Bool) → (a && true) ≡ a
+and_true true = refl
+and_true false = refl
+
+-- the same tokens begin them and may follow
+first_either : (f g : Form) → IsEither f g → first tables (either f g) ≡ first tables f ++ first tables g
+unfolding first
+first_either f g (IsEither.part q e) = rw (e, q) (sym (append-nil (first tables f)))
+first_either f g (IsEither.choice e) = rw e refl
+
+nullable_either : (f g : Form) → IsEither f g → nullable tables (either f g) ≡ (nullable tables f || nullable tables g)
+unfolding nullable
+nullable_either f g (IsEither.part q e) = rw (e, q) (sym (or_true (nullable tables f)))
+nullable_either f g (IsEither.choice e) = rw e refl
+
+flows_either : (f g : Form) (F : List ℕ) (b : Bool) → IsEither f g → flows (either f g) F b ≡ (flows f F b && flows g F b)
+unfolding flows
+flows_either f g F b (IsEither.part q e) = rw (e, q) (sym (and_true (flows f F b)))
+flows_either f g F b (IsEither.choice e) = rw e refl
+
+pub flows_when : (b : Bool) (p : Test) (f g : Form) (F : List ℕ) (c : Bool) → flows (opens_when b p f g) F c ≡ (flows f F c && flows g F c)
+unfolding flows opens_when
+flows_when true p f g F c = refl
+flows_when false p f g F c = flows_either f g F c (is_either f g)
+
+pub flows_loop : (b : Bool) (p : Test) (f : Form) (F : List ℕ) (c : Bool) → flows (opens_loop b p f) F c ≡ ((not c || clear f c) && flows f (first tables f ++ F) c)
+unfolding flows opens_loop
+flows_loop true p f F c = refl
+flows_loop false p f F c = refl
+
+first_when : (b : Bool) (p : Test) (f g : Form) → first tables (opens_when b p f g) ≡ first tables f ++ first tables g
+unfolding first opens_when
+first_when true p f g = refl
+first_when false p f g = first_either f g (is_either f g)
+
+nullable_when : (b : Bool) (p : Test) (f g : Form) → nullable tables (opens_when b p f g) ≡ (nullable tables f || nullable tables g)
+unfolding nullable opens_when
+nullable_when true p f g = refl
+nullable_when false p f g = nullable_either f g (is_either f g)
+
+first_loop : (b : Bool) (p : Test) (f : Form) → first tables (opens_loop b p f) ≡ first tables f
+unfolding first opens_loop
+first_loop true p f = refl
+first_loop false p f = refl
+
+nullable_loop : (b : Bool) (p : Test) (f : Form) → nullable tables (opens_loop b p f) ≡ true
+unfolding nullable opens_loop
+nullable_loop true p f = refl
+nullable_loop false p f = refl
+
+pub same_nullable : (k : Test → Bool) (f : Form) → nullable tables (opens k f) ≡ nullable tables f
+unfolding opens nullable
+same_nullable k (word ks a) = refl
+same_nullable k (rule n) = refl
+same_nullable k empty = refl
+same_nullable k (f then g) = rw (same_nullable k f, same_nullable k g) refl
+same_nullable k (f or g) = rw (same_nullable k f, same_nullable k g) refl
+same_nullable k (maybe f) = refl
+same_nullable k (many f) = refl
+same_nullable k (when p f g) = rw (nullable_when (k p) p (opens k f) (opens k g), same_nullable k f, same_nullable k g) refl
+same_nullable k (loop p f) = nullable_loop (k p) p (opens k f)
+
+pub same_first : (k : Test → Bool) (f : Form) → first tables (opens k f) ≡ first tables f
+unfolding opens first
+same_first k (word ks a) = refl
+same_first k (rule n) = refl
+same_first k empty = refl
+same_first k (f then g) = rw (same_first k f, same_first k g, same_nullable k f) refl
+same_first k (f or g) = rw (same_first k f, same_first k g) refl
+same_first k (maybe f) = same_first k f
+same_first k (many f) = same_first k f
+same_first k (when p f g) = rw (first_when (k p) p (opens k f) (opens k g), same_first k f, same_first k g) refl
+same_first k (loop p f) = rw (first_loop (k p) p (opens k f)) (same_first k f)
+
+pub same_leads : (k : Test → Bool) (f : Form) (F : List ℕ) → leads tables (opens k f) F ≡ leads tables f F
+unfolding leads
+same_leads k f F = rw (same_first k f, same_nullable k f) refl

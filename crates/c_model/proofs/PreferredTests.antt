@@ -1,0 +1,214 @@
+-- Where a test that the open table leaves out fails, the alternative that is written first derives nothing.
+use Rattle.std.proofs.Common.{◌≡◌, Bool, true, false, not, ◌&&◌, List, [], ◌∷◌, refl, ap}
+use Rattle.c_model.specs.declared.grammar.Rule.{Rule}
+use Rattle.c_model.specs.declared.grammar.Rule.TheVariants as r
+use Rattle.c_model.specs.declared.grammar.Act.TheVariants as act
+use Rattle.c_model.specs.declared.grammar.Test.{Test}
+use Rattle.c_model.specs.declared.grammar.Test.TheVariants as test
+use Rattle.c_model.specs.declared.grammar.Terminal.{Terminal}
+use Rattle.c_model.specs.declared.grammar.Before.TheVariants.{AtStart}
+use Rattle.c_model.specs.declared.grammar.Tree.{Tree}
+use Rattle.c_model.specs.GrammarForm.{Form, word, rule, empty, ◌then◌, ◌or◌, maybe, many, when, loop, mem}
+use Rattle.c_model.specs.Terminals as k
+use Rattle.c_model.specs.Grammar.{token}
+use Rattle.c_model.specs.NameScopes.{Scopes}
+use Rattle.c_model.specs.Derivation.{Derives}
+use Rattle.c_model.specs.DecidedTable.{within, nullable, first}
+use Rattle.c_model.specs.ParserTable.{table}
+use Rattle.c_model.specs.ParserSets.{hollow}
+use Rattle.c_model.specs.ParserTests.{parsed, passes}
+use Rattle.c_model.proofs.ClearBrackets.{clear, is_balanced, holds}
+use Rattle.c_model.proofs.BehindAttributes.{attribute_seen, specified, declared, alone}
+use Rattle.c_model.proofs.RegainTable.{Clear, begins_with, starts}
+use Rattle.c_model.proofs.RegainCommas.{seen, items, names}
+use Rattle.c_model.proofs.RegainParameters.{seen as more_parameters}
+use Rattle.c_model.proofs.RegainParameter.{at_specifiers}
+use Rattle.c_model.proofs.RegainDeclarator.{declarator_named}
+use Rattle.c_model.proofs.RegainAbstract.{test_true, is_parenthesis, abstract_opens, inner}
+use Rattle.c_model.proofs.RegainDeclaration.{named, asserted}
+use Rattle.c_model.proofs.RegainBlock.{by_assertion, by_attributes, labelled}
+use Rattle.c_model.proofs.RegainCast.{by_what_follows, no_brace, unary_no_cast}
+use Rattle.c_model.proofs.RegainPrimary.{no_type}
+use Rattle.c_model.proofs.RegainFunction.{function_seen}
+use Rattle.c_model.proofs.OpenForms.{opens, opens_when, opens_loop, stays}
+
+-- the scopes are those behind the specifiers of a parameter, where c says so
+abbrev pub Parameter : Bool → Scopes → Type 0
+Parameter c s = c ≡ true → s.reading.parameter ≡ true
+
+-- the specifiers of a parameter
+unfoldable pub gives_parameter : Form → Bool
+gives_parameter (rule r.ParamSpecs) = true
+gives_parameter _ = false
+
+-- the test holds wherever the form derives what comes
+pub record IsTaken (p : Test) (f : Form) (b c : Bool) : Type 0 where
+  pub holds : (s new : Scopes) (ts rest : List Terminal) (xs : List Tree) → Clear b s → Parameter c s → Derives parsed f s ts xs new rest → passes p s ts ≡ true
+
+-- no test is left out of the form
+unfoldable pub plain : (Test → Bool) → Form → Bool
+plain k (word ks a) = true
+plain k (rule n) = true
+plain k empty = true
+plain k (f then g) = plain k f && plain k g
+plain k (f or g) = plain k f && plain k g
+plain k (maybe f) = plain k f
+plain k (many f) = plain k f
+plain k (when p f g) = k p && (plain k f && plain k g)
+plain k (loop p f) = k p && plain k f
+
+-- each test that is left out of the form holds wherever its first alternative derives what comes; no bracket is held open
+-- before the form where b says so
+pub data IsTested : (Test → Bool) → Form → Bool → Bool → Type 0 where
+  plainly : {k : Test → Bool} {f : Form} {b c : Bool} → plain k f ≡ true → IsTested k f b c
+  in_then : {k : Test → Bool} {f g : Form} {b c : Bool} → IsTested k f b c → IsTested k g (clear (opens k f) b) (gives_parameter f) → IsTested k (f then g) b c
+  in_or : {k : Test → Bool} {f g : Form} {b c : Bool} → IsTested k f b c → IsTested k g b c → IsTested k (f or g) b c
+  in_maybe : {k : Test → Bool} {f : Form} {b c : Bool} → IsTested k f b c → IsTested k (maybe f) b c
+  in_many : {k : Test → Bool} {f : Form} {b c : Bool} → IsTested k f b false → IsTested k (many f) b c
+  kept_when : {k : Test → Bool} {p : Test} {f g : Form} {b c : Bool} → k p ≡ true → IsTested k f b c → IsTested k g b c → IsTested k (when p f g) b c
+  open_when : {k : Test → Bool} {p : Test} {f g : Form} {b c : Bool} → IsTaken p (opens k f) b c → IsTested k f b c → IsTested k g b c → IsTested k (when p f g) b c
+  open_loop : {k : Test → Bool} {p : Test} {f : Form} {b c : Bool} → IsTaken p (opens k f) b false → IsTested k f b false → IsTested k (loop p f) b c
+
+function_taken : (c : Bool) → IsTaken test.FunctionAhead (rule r.Function) true c
+unfolding table hollow
+function_taken c = record { holds = λ s new ts rest xs b p d. by (b refl) d }
+  where
+    by : {s new : Scopes} {ts rest : List Terminal} {xs : List Tree} → s.brackets ≡ [] → Derives parsed (rule r.Function) s ts xs new rest → passes test.FunctionAhead s ts ≡ true
+    by b (Derives.a_rule (Derives.both a (Derives.both d (Derives.both e x q3) q2) q1)) = function_seen b a d e (begins_with refl x)
+
+named_taken : (c : Bool) → IsTaken test.SpecifiersAhead named true c
+unfolding hollow
+named_taken c = record { holds = λ s new ts rest xs b p d. by (b refl) d }
+  where
+    by : {s new : Scopes} {ts rest : List Terminal} {xs : List Tree} → s.brackets ≡ [] → Derives parsed named s ts xs new rest → passes test.SpecifiersAhead s ts ≡ true
+    by b (Derives.both a (Derives.both d m q2) q1) = specified b a (begins_with refl d)
+
+attributes_taken : (b c : Bool) → IsTaken test.AttributeAhead (rule r.Attr) b c
+attributes_taken b c = record { holds = λ s new ts rest xs b p d. attribute_seen d }
+
+enumerators_taken : (b c : Bool) → IsTaken test.EnumeratorAhead (token k.Comma then rule r.Enumr) b c
+enumerators_taken b c = record { holds = λ s new ts rest xs b p d. seen test.EnumeratorAhead r.Enumr names s new ts rest xs d }
+
+items_taken : (b c : Bool) → IsTaken test.ItemAhead (token k.Comma then rule r.Item) b c
+items_taken b c = record { holds = λ s new ts rest xs b p d. seen test.ItemAhead r.Item items s new ts rest xs d }
+
+parameters_taken : (b c : Bool) → IsTaken test.ParameterAhead (word (k.Comma ∷ []) act.NextParameter then rule r.Param) b c
+parameters_taken b c = record { holds = λ s new ts rest xs b p d. more_parameters s new ts rest xs d }
+
+declarator_taken : IsTaken test.DeclaratorAhead (rule r.Declared) true true
+unfolding table
+declarator_taken = record { holds = λ s new ts rest xs b p d. by (b refl) (p refl) d }
+  where
+    by : {s new : Scopes} {ts rest : List Terminal} {xs : List Tree} → s.brackets ≡ [] → s.reading.parameter ≡ true → Derives parsed (rule r.Declared) s ts xs new rest → passes test.DeclaratorAhead s ts ≡ true
+    by {s = s} b p (Derives.a_rule d) = declarator_named s (AtStart s.reading.typed) (at_specifiers s p b) d
+
+abstract_taken : (b c : Bool) → IsTaken test.AbstractAhead inner b c
+abstract_taken b c = record { holds = λ s new ts rest xs b p d. by d }
+  where
+    by : {s new : Scopes} {ts rest : List Terminal} {xs : List Tree} → Derives parsed inner s ts xs new rest → passes test.AbstractAhead s ts ≡ true
+    by {s = s} (Derives.both (Derives.a_word {t = t} {ts = us} e) (Derives.both d c p) q) = test_true t us (is_parenthesis s t e) (abstract_opens d)
+
+declaration_taken : (c : Bool) → IsTaken test.DeclarationAhead (rule r.Declaration) true c
+unfolding table hollow
+declaration_taken c = record { holds = λ s new ts rest xs b p d. by (b refl) d }
+  where
+    by : {s new : Scopes} {ts rest : List Terminal} {xs : List Tree} → s.brackets ≡ [] → Derives parsed (rule r.Declaration) s ts xs new rest → passes test.DeclarationAhead s ts ≡ true
+    by c (Derives.a_rule (Derives.chosen b (Derives.both a (Derives.both d m p) q))) = declared c a (begins_with refl d)
+    by {s = s} {ts = ts} c (Derives.a_rule (Derives.other b (Derives.left d))) = by_assertion s ts (asserted s ts (begins_with refl d))
+    by {s = s} {ts = ts} c (Derives.a_rule (Derives.other b (Derives.right (Derives.both d (Derives.both e (Derives.a_word w) p) q)))) = by_attributes s ts (alone c d e w)
+
+abbrev cases : Form
+cases = token k.Case then rule r.Cond or token k.Default
+
+label_taken : (c : Bool) → IsTaken test.LabelAhead (rule r.Label) true c
+unfolding table first nullable hollow
+label_taken c = record { holds = λ s new ts rest xs b p d. by (b refl) d }
+  where
+    by : {s new : Scopes} {ts rest : List Terminal} {xs : List Tree} → s.brackets ≡ [] → Derives parsed (rule r.Label) s ts xs new rest → passes test.LabelAhead s ts ≡ true
+    by c (Derives.a_rule (Derives.both a (Derives.both d w p) q)) = labelled c a (starts {f = cases} refl d)
+
+abbrev cast : Form
+cast = token k.OpenParenthesis then rule r.Typename then token k.CloseParenthesis then rule r.Cast
+
+cast_taken : (c : Bool) → IsTaken test.CastAhead cast true c
+unfolding hollow
+cast_taken c = record { holds = λ s new ts rest xs b p d. by (b refl) d }
+  where
+    by : {s new : Scopes} {ts rest : List Terminal} {xs : List Tree} → s.brackets ≡ [] → Derives parsed cast s ts xs new rest → passes test.CastAhead s ts ≡ true
+    by {s = s} c (Derives.both (Derives.a_word {t = t} e) (Derives.both d (Derives.both (Derives.a_word {ts = vs} w) x q) p) z) = by_what_follows s t false c e d w (no_brace _ vs (begins_with refl x))
+
+operand_taken : (c : Bool) → IsTaken test.OperandAhead (rule r.Unary) true c
+operand_taken c = record { holds = λ s new ts rest xs b p d. ap not (unary_no_cast (b refl) d) }
+
+abbrev parenthesized : Form
+parenthesized = token k.OpenParenthesis then rule r.Expr then token k.CloseParenthesis
+
+parenthesized_taken : (b c : Bool) → IsTaken test.ParenthesizedExpression parenthesized b c
+unfolding hollow
+parenthesized_taken b c = record { holds = λ s new ts rest xs b p d. by d }
+  where
+    by : {s new : Scopes} {ts rest : List Terminal} {xs : List Tree} → Derives parsed parenthesized s ts xs new rest → passes test.ParenthesizedExpression s ts ≡ true
+    by {s = s} (Derives.both (Derives.a_word {t = t} {ts = us} e) (Derives.both d c q) p) = no_type s t us (begins_with refl d)
+
+-- of each production
+pub tested : (n : Rule) → IsTested (stays n) (table n) (not (is_balanced n)) false
+unfolding plain opens opens_when opens_loop stays table clear holds is_balanced gives_parameter within mem
+tested r.Unit = IsTested.plainly refl
+tested r.External = IsTested.open_when (function_taken false) (IsTested.plainly refl) (IsTested.plainly refl)
+tested r.Function = IsTested.plainly refl
+tested r.Declaration = IsTested.open_when (named_taken false) (IsTested.plainly refl) (IsTested.plainly refl)
+tested r.Sassert = IsTested.plainly refl
+tested r.Attrs = IsTested.plainly refl
+tested r.Attr = IsTested.plainly refl
+tested r.Specs = IsTested.plainly refl
+tested r.Spec = IsTested.plainly refl
+tested r.Storage = IsTested.plainly refl
+tested r.Typespec = IsTested.plainly refl
+tested r.Qual = IsTested.plainly refl
+tested r.Squals = IsTested.plainly refl
+tested r.Struct = IsTested.plainly refl
+tested r.Members = IsTested.plainly refl
+tested r.Member = IsTested.plainly refl
+tested r.Enum = IsTested.in_then (IsTested.plainly refl) (IsTested.in_then (IsTested.plainly refl) (IsTested.kept_when refl (IsTested.in_then (IsTested.plainly refl) (IsTested.in_then (IsTested.plainly refl) (IsTested.in_then (IsTested.plainly refl) (IsTested.in_then (IsTested.plainly refl) (IsTested.in_then (IsTested.open_loop (enumerators_taken _ false) (IsTested.plainly refl)) (IsTested.plainly refl)))))) (IsTested.plainly refl)))
+tested r.Enumr = IsTested.plainly refl
+tested r.Declarator = IsTested.plainly refl
+tested r.Direct = IsTested.in_then (IsTested.in_or (IsTested.in_then (IsTested.plainly refl) (IsTested.open_loop (attributes_taken _ false) (IsTested.plainly refl))) (IsTested.plainly refl)) (IsTested.plainly refl)
+tested r.Suffix = IsTested.plainly refl
+tested r.Params = IsTested.in_then (IsTested.plainly refl) (IsTested.in_then (IsTested.open_loop (parameters_taken _ false) (IsTested.plainly refl)) (IsTested.plainly refl))
+tested r.Param = IsTested.in_then (IsTested.plainly refl) (IsTested.in_then (IsTested.plainly refl) (IsTested.in_maybe (IsTested.open_when declarator_taken (IsTested.plainly refl) (IsTested.plainly refl))))
+tested r.Typename = IsTested.plainly refl
+tested r.Abstract = IsTested.in_or (IsTested.in_then (IsTested.plainly refl) (IsTested.in_then (IsTested.open_loop (attributes_taken _ false) (IsTested.plainly refl)) (IsTested.plainly refl))) (IsTested.plainly refl)
+tested r.Adirect = IsTested.in_then (IsTested.open_when (abstract_taken _ _) (IsTested.plainly refl) (IsTested.plainly refl)) (IsTested.plainly refl)
+tested r.Initdecl = IsTested.plainly refl
+tested r.Init = IsTested.plainly refl
+tested r.Braces = IsTested.in_then (IsTested.plainly refl) (IsTested.in_then (IsTested.in_maybe (IsTested.in_then (IsTested.plainly refl) (IsTested.in_then (IsTested.open_loop (items_taken _ false) (IsTested.plainly refl)) (IsTested.plainly refl)))) (IsTested.plainly refl))
+tested r.Item = IsTested.plainly refl
+tested r.Desig = IsTested.plainly refl
+tested r.Block = IsTested.in_then (IsTested.plainly refl) (IsTested.in_then (IsTested.in_many (IsTested.open_when (declaration_taken false) (IsTested.plainly refl) (IsTested.open_when (label_taken false) (IsTested.plainly refl) (IsTested.plainly refl)))) (IsTested.plainly refl))
+tested r.Label = IsTested.plainly refl
+tested r.Statement = IsTested.plainly refl
+tested r.Expr = IsTested.plainly refl
+tested r.Assign = IsTested.plainly refl
+tested r.Cond = IsTested.plainly refl
+tested r.Oror = IsTested.plainly refl
+tested r.Andand = IsTested.plainly refl
+tested r.Bor = IsTested.plainly refl
+tested r.Bxor = IsTested.plainly refl
+tested r.Band = IsTested.plainly refl
+tested r.Equal = IsTested.plainly refl
+tested r.Rel = IsTested.plainly refl
+tested r.Shift = IsTested.plainly refl
+tested r.Sum = IsTested.plainly refl
+tested r.Product = IsTested.plainly refl
+tested r.Cast = IsTested.open_when (cast_taken false) (IsTested.plainly refl) (IsTested.plainly refl)
+tested r.Unary = IsTested.in_or (IsTested.plainly refl) (IsTested.in_or (IsTested.plainly refl) (IsTested.in_or (IsTested.plainly refl) (IsTested.in_or (IsTested.in_then (IsTested.plainly refl) (IsTested.open_when (operand_taken false) (IsTested.plainly refl) (IsTested.plainly refl))) (IsTested.plainly refl))))
+tested r.Postfix = IsTested.plainly refl
+tested r.Primary = IsTested.in_or (IsTested.plainly refl) (IsTested.in_or (IsTested.plainly refl) (IsTested.in_or (IsTested.plainly refl) (IsTested.in_or (IsTested.plainly refl) (IsTested.open_when (parenthesized_taken _ _) (IsTested.plainly refl) (IsTested.plainly refl)))))
+tested r.Literal = IsTested.plainly refl
+tested r.Balanced = IsTested.plainly refl
+tested r.Declared = IsTested.plainly refl
+tested r.ParamSpecs = IsTested.plainly refl
+tested r.Body = IsTested.plainly refl
+tested r.Typeof = IsTested.plainly refl
+tested r.If = IsTested.plainly refl
+tested r.For = IsTested.plainly refl
