@@ -52,6 +52,8 @@ pub mod PastDeclarators
 pub mod RegainFunction
 pub mod Loosen
 pub mod RegainUnit
+pub mod NamesKept
+pub mod PlainUnits
 pub mod PpNumberLaws
 pub mod LiteralLaws
 pub mod Releases
