@@ -59,6 +59,8 @@ pub mod PreferredTests
 pub mod OpenChoices
 pub mod Compared
 pub mod PreferredUnit
+pub mod NamesKept
+pub mod PlainUnits
 pub mod PpNumberLaws
 pub mod LiteralLaws
 pub mod Releases

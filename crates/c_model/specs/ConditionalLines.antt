@@ -36,8 +36,8 @@ Lines = Conditionals × State
 -- `#if`, `#ifdef`, `#ifndef`
 abbrev pub begins : Part → Test → Conditionals → State → Process Lines
 begins p test opens s =
-    if is_translated opens then and_then (test s) (λ v. gives (opened p.at v.0 opens, v.1))
-    else gives (opened_in_skipped p.at opens, s)
+    if is_translated opens then and_then (test s) (λ v. gives (opened (here s p.at) v.0 opens, v.1))
+    else gives (opened_in_skipped (here s p.at) opens, s)
 
 -- a condition is looked at only where no group was taken
 abbrev pub goes_on_in : Group → Test → Conditional → Conditionals → State → Process Lines

@@ -171,3 +171,4 @@ pub mod ExpandedText
 pub mod RuleTexts
 pub mod ReportLines
 pub mod Answer
+pub mod PreprocessingLaws

@@ -42,7 +42,7 @@ line_of file include line.Unknown p opens s = translated_only opens s (faults s 
 -- at the end of a file
 abbrev pub ended : State → Option Place → Process State
 ended s None = gives s
-ended s (Some at) = faults s (here s at) 13
+ended s (Some at) = faults s at 13
 
 -- the lines of a file in turn; then no conditional may be open
 abbrev pub all_lines : (file : ℕ) → (Part → State → Process State) → List Part → Conditionals → State → Process State

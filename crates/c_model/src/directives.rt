@@ -40,8 +40,8 @@ pub enum Group {
     Passed,
 }
 
-/// A conditional that isn't ended yet: the place of the `#` of its first line, its group, and
-/// whether that is the one after `#else`.
+/// A conditional that isn't ended yet: the place of the `#` of its first line, whose order is the
+/// number of tokens before it, its group, and whether that is the one after `#else`.
 #[derive(Clone, Copy, Debug, PartialEq, Eq)]
 pub struct Conditional {
     pub at: Place,

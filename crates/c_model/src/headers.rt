@@ -38,7 +38,7 @@ typedef unsigned long uintmax_t;
 #define UINT64_MAX 18446744073709551615UL
 ";
 
-/// `<limits.h>` (7.19).
+/// `<limits.h>` (7.10).
 pub const LIMITS: &[u8] = b"#pragma once
 #define CHAR_BIT 8
 #define SCHAR_MIN (-128)

@@ -22,6 +22,7 @@ pub mod numbers;
 pub mod operators;
 pub mod outcomes;
 pub mod positions;
+pub mod preprocessing_laws;
 pub mod runs;
 pub mod steps;
 pub mod syntax;

@@ -73,13 +73,14 @@ pub fn begin(
 ) -> Result<(), PrepError>
     ensures { Does (spec.begins part.now (test_of test part.now) opened.old unit.old) result (λ _. (opened.new, unit.new)) unit.new.log }
 {
+    let at = unit.here(part.at);
     let group = if opened.is_translated() {
         group_where(holds(alloc, unit, part, test)?)
     } else {
         Group::Passed
     };
     opened.push(Conditional {
-        at: part.at,
+        at,
         group,
         last: false,
     })?;

@@ -103,7 +103,7 @@ fn end_of_file(unit: &Unit, opened: &Conditionals) -> Result<(), PrepError>
     ensures { Does (spec.ended unit.now (conditionals.outermost opened.now)) result (λ _. unit.now) unit.now.log }
 {
     match opened.outermost() {
-        Some(at) => Err(fault(unit.here(at), 13)),
+        Some(at) => Err(fault(at, 13)),
         None => Ok(()),
     }
 }

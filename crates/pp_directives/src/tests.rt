@@ -182,6 +182,7 @@ fn conditionals_break_their_rules(rt: HostRuntime) -> Result<(), Fail> {
         ),
         (" #if 1\n#if 0\n#endif", "P13 a.c:1:2 after 0"),
         ("#if 1\n#endif\n#if 0\n#if 1\n#else", "P13 a.c:3:1 after 0"),
+        ("x\n#if 1\n#if 0\n#endif\ny z", "P13 a.c:2:1 after 1"),
     ];
     for (text, want) in rows {
         let got = alone(rt.alloc(), text)?;
