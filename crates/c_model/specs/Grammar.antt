@@ -65,17 +65,17 @@ grammar r.Typespec =
 grammar r.Qual = word (k.Const ∷ k.Restrict ∷ k.Owner ∷ k.View ∷ k.Opt ∷ []) act.Specifier
 grammar r.Squals = (rule r.Typespec or rule r.Qual) then many (rule r.Typespec or rule r.Qual)
 grammar r.Struct =
-    token k.Struct then rule r.Attrs
+    word (k.Struct ∷ []) act.OpenSpecifier then rule r.Attrs
     then (word (k.Name ∷ k.TypedefName ∷ []) act.TypeSpecifier then maybe (rule r.Members) or rule r.Members)
 grammar r.Members =
-    token k.OpenBrace then rule r.Member then many (rule r.Member)
+    word (k.OpenBrace ∷ []) act.Enclose then rule r.Member then many (rule r.Member)
     then word (k.CloseBrace ∷ []) act.TypeSpecifier
 grammar r.Member =
     rule r.Attrs then rule r.Squals then rule r.Declarator then many (word (k.Comma ∷ []) act.NextDeclarator then rule r.Declarator) then token k.Semicolon
     or rule r.Sassert
 grammar r.Enum =
-    token k.Enum then rule r.Attrs
-    then (maybe (word (k.Name ∷ k.TypedefName ∷ []) act.TypeSpecifier) then maybe (token k.Colon then rule r.Squals) then token k.OpenBrace then rule r.Enumr then many (token k.Comma then rule r.Enumr) then maybe (token k.Comma) then word (k.CloseBrace ∷ []) act.TypeSpecifier or word (k.Name ∷ k.TypedefName ∷ []) act.TypeSpecifier then maybe (token k.Colon then rule r.Squals))
+    word (k.Enum ∷ []) act.OpenSpecifier then rule r.Attrs
+    then (maybe (word (k.Name ∷ k.TypedefName ∷ []) act.TypeSpecifier) then maybe (word (k.Colon ∷ []) act.AwaitBraces then rule r.Squals) then word (k.OpenBrace ∷ []) act.Enclose then rule r.Enumr then many (token k.Comma then rule r.Enumr) then maybe (token k.Comma) then word (k.CloseBrace ∷ []) act.TypeSpecifier or word (k.Name ∷ k.TypedefName ∷ []) act.TypeSpecifier then maybe (token k.Colon then rule r.Squals))
 grammar r.Enumr = token k.Name then rule r.Attrs then maybe (token k.Equals then rule r.Cond)
 grammar r.Declarator =
     many (word (k.Star ∷ []) act.Pointer then rule r.Attrs then many (rule r.Qual)) then rule r.Direct
@@ -157,7 +157,7 @@ grammar r.Declared = rule r.Declarator
 grammar r.ParamSpecs = rule r.Specs
 grammar r.Body = rule r.Block
 grammar r.Typeof =
-    word (k.Typeof ∷ k.TypeofUnqual ∷ []) act.Pass then token k.OpenParenthesis
+    word (k.Typeof ∷ k.TypeofUnqual ∷ []) act.OpenSpecifier then word (k.OpenParenthesis ∷ []) act.Enclose
     then (rule r.Expr or rule r.Typename) then word (k.CloseParenthesis ∷ []) act.TypeSpecifier
 grammar r.If =
     token k.If then word (k.OpenParenthesis ∷ []) act.OpenScope then maybe (rule r.Declaration)
