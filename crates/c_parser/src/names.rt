@@ -1,6 +1,6 @@
 //! Which identifiers are typedef names: the scopes of the declarations that have been read.
 
-ghost use Rattle.std.specs.Prelude.{◌≡◌, true, None, OnOk};
+ghost use Rattle.std.specs.Prelude.{◌≡◌, ◌<◌, ◌^◌, true, None, OnOk};
 ghost use Rattle.c_model.specs.NameScopes as spec;
 ghost use Rattle.c_model.specs.declared.grammar.Act.TheVariants as act;
 ghost use Rattle.c_model.specs.declared.grammar.Rule.TheVariants as rule;
