@@ -11,7 +11,7 @@ use Rattle.c_model.specs.declared.grammar.Within.{Within}
 use Rattle.c_model.specs.declared.grammar.Within.TheVariants.{Between, BehindColon, BehindHead, BehindTag, BehindTypeof, Attribute, Group}
 use Rattle.c_model.specs.declared.grammar.Tree.{Tree}
 use Rattle.c_model.specs.GrammarForm.{Form, word, rule, when, maybe, many, loop, ◌then◌, ◌or◌, mem}
-use Rattle.c_model.specs.Grammar.{token}
+use Rattle.c_model.specs.Grammar.{token, type_kinds}
 use Rattle.c_model.specs.Terminals as k
 use Rattle.c_model.specs.NameScopes.{Scopes, kind, after, close, is_type, is_closing, is_given, closes, bracket_kind}
 use Rattle.c_model.specs.Derivation.{Derives}
@@ -19,7 +19,8 @@ use Rattle.c_model.specs.DecidedTable.{within, apart}
 use Rattle.c_model.specs.ParserWalk.{ahead}
 use Rattle.c_model.specs.ParserTable.{table}
 use Rattle.c_model.specs.ParserSets.{tables, firsts, hollow}
-use Rattle.c_model.specs.ParserTests.{parsed, past_brackets, past_specifiers, specifier_step, behind_word, is_type_word, type_words, may_come}
+use Rattle.c_model.specs.SyntaxTree.{sees_type}
+use Rattle.c_model.specs.ParserTests.{parsed, past_brackets, past_specifiers, specifier_step, behind_word, is_type_word, type_words}
 use Rattle.c_model.proofs.KindSets.{one_mem, apart_mem, within_mem, clash}
 use Rattle.c_model.proofs.TokenKinds.{Plain, is_it, absent, raw, decide, unseen, unnamed}
 use Rattle.c_model.proofs.ClearBrackets.{closing, clear, holds, is_balanced, parsed_clear}
@@ -555,16 +556,16 @@ braces_over place base {s = s} arrive c (Derives.both (Derives.a_word {t = o} {t
 ungiven_kind : (F : List ℕ) (j : ℕ) → mem 112 F ≡ false → mem 113 F ≡ false → mem 116 F ≡ false → mem j F ≡ true → is_given j ≡ false
 ungiven_kind F j a b c m = rw (none F j 112 m a, none F j 113 m b, none F j 116 m c) refl
 
-qualifier_goes_on : (s : Scopes) (t : Terminal) → s.brackets ≡ [] → (t.kind == 111) ≡ false → mem t.kind (firsts r.Qual) ≡ true → mem (kind s t) (firsts r.Squals) ≡ true
+qualifier_goes_on : (s : Scopes) (t : Terminal) → s.brackets ≡ [] → (t.kind == 111) ≡ false → mem t.kind (firsts r.Qual) ≡ true → mem (kind s t) type_kinds ≡ true
 unfolding mem firsts within
-qualifier_goes_on s t b n m = rw (n, b, ungiven_kind (firsts r.Qual) t.kind refl refl refl m) (within_mem tables t.kind (firsts r.Qual) (firsts r.Squals) refl m)
+qualifier_goes_on s t b n m = rw (n, b, ungiven_kind (firsts r.Qual) t.kind refl refl refl m) (within_mem tables t.kind (firsts r.Qual) type_kinds refl m)
 
-name_goes_on : (s : Scopes) (t : Terminal) → s.reading.typed ≡ false → (t.kind == 111) ≡ true → is_type s.entries t.name ≡ true → mem (kind s t) (firsts r.Squals) ≡ true
+name_goes_on : (s : Scopes) (t : Terminal) → s.reading.typed ≡ false → (t.kind == 111) ≡ true → is_type s.entries t.name ≡ true → mem (kind s t) type_kinds ≡ true
 unfolding mem firsts
 name_goes_on s t y n i = rw (n, i, y) refl
 
 -- before another token the list ends as the enumeration does
-colon_ends : (base s : Scopes) (ts : List Terminal) → IsSame base s → s.reading.typed ≡ false → may_come r.Squals s ts ≡ false → past_specifiers BehindColon base ts ≡ past_specifiers (Between true) base ts
+colon_ends : (base s : Scopes) (ts : List Terminal) → IsSame base s → s.reading.typed ≡ false → sees_type s ts ≡ false → past_specifiers BehindColon base ts ≡ past_specifiers (Between true) base ts
 unfolding past_specifiers specifier_step
 colon_ends base s [] b y h = refl
 colon_ends base s (t ∷ ts) b y h = by (t.kind == 111) refl
@@ -578,7 +579,7 @@ colon_ends base s (t ∷ ts) b y h = by (t.kind == 111) refl
         let n : mem t.kind (firsts r.Qual) ≡ false = decide (mem t.kind (firsts r.Qual)) (λ e. clash _ (qualifier_goes_on s t b.clear q e) h) in
         rw (q, n) refl
 
-list_ends : (base s : Scopes) (ts : List Terminal) → IsSame base s → may_come r.Squals s ts ≡ false → past_specifiers (listed true s.reading.typed) base ts ≡ past_specifiers (Between true) base ts
+list_ends : (base s : Scopes) (ts : List Terminal) → IsSame base s → sees_type s ts ≡ false → past_specifiers (listed true s.reading.typed) base ts ≡ past_specifiers (Between true) base ts
 list_ends base s ts b h = by s.reading.typed refl
   where
     by : (y : Bool) → s.reading.typed ≡ y → past_specifiers (listed true y) base ts ≡ past_specifiers (Between true) base ts
@@ -588,7 +589,7 @@ list_ends base s ts b h = by s.reading.typed refl
 -- a list of type specifiers and qualifiers, with no more of them behind it
 record IsListed (c : Bool) (base s new : Scopes) (ts rest : List Terminal) : Type 0 where
   pub scanned : IsPast c base s new ts rest
-  pub ended : may_come r.Squals new rest ≡ false
+  pub ended : sees_type new rest ≡ false
 
 mutual
   unfolding table declares is_balanced leaves_last

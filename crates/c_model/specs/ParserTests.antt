@@ -13,7 +13,7 @@ use Rattle.c_model.specs.Terminals as k
 use Rattle.c_model.specs.GrammarForm.{mem}
 use Rattle.c_model.specs.NameScopes.{Scopes, kind, fresh, is_opening, is_closing, is_type}
 use Rattle.c_model.specs.Derivation.{Language}
-use Rattle.c_model.specs.SyntaxTree.{c_language, has_parameters, sees_else}
+use Rattle.c_model.specs.SyntaxTree.{c_language, has_parameters, sees_else, sees_type}
 use Rattle.c_model.specs.ParserTable.{table}
 use Rattle.c_model.specs.ParserSets.{firsts}
 
@@ -279,7 +279,7 @@ passes test.HasParameters s ts = has_parameters s.reading.held
 passes test.FunctionAhead s ts = sees_function s ts
 passes test.SpecifiersAhead s ts = not (sees_assertion ts || sees_attributes_alone ts)
 passes test.AttributeAhead s ts = sees_attribute ts
-passes test.TypeAhead s ts = may_come r.Squals s ts
+passes test.TypeAhead s ts = sees_type s ts
 passes test.BraceAhead s ts = sees_members s ts
 passes test.EnumeratorsAhead s ts = has_enumerators s ts
 passes test.EnumeratorAhead s ts = sees_enumerator s ts

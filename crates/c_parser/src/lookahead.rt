@@ -2,6 +2,7 @@
 
 ghost use Rattle.std.specs.Prelude.{◌≡◌, ◌∷◌, [], true, false, ◌+◌, ◌<◌, ◌≤◌, ◌^◌, ◌&&◌, ◌||◌, not, IfSome, MatchOption};
 ghost use Rattle.c_model.specs.ParserTests as spec;
+ghost use Rattle.c_model.specs.SyntaxTree as tree;
 ghost use Rattle.c_model.specs.declared.grammar.Before.TheVariants as before;
 ghost use Rattle.c_model.specs.declared.grammar.Within.TheVariants as within;
 
@@ -50,6 +51,14 @@ fn may_come(rule: Rule, names: &Names, tokens: &[Terminal]) -> bool
         [first, ..] => may_begin(rule, names.kind(*first)),
         [] => false,
     }
+}
+
+/// Whether a type specifier or a qualifier comes next.
+#[tactic(auto, unfolding(c_model::specs::ParserSets::firsts))]
+fn sees_type(names: &Names, tokens: &[Terminal]) -> bool
+    ensures { result ≡ tree.sees_type names.now tokens.now }
+{
+    may_come(Rule::Squals, names, tokens)
 }
 
 /// What is behind the bracket that closes the first.
@@ -653,7 +662,7 @@ pub fn passes(test: Test, names: &Names, tokens: &[Terminal]) -> bool
         Test::FunctionAhead => sees_function(names, tokens),
         Test::SpecifiersAhead => !(sees_assertion(tokens) || sees_attributes_alone(tokens)),
         Test::AttributeAhead => sees_attribute(tokens),
-        Test::TypeAhead => may_come(Rule::Squals, names, tokens),
+        Test::TypeAhead => sees_type(names, tokens),
         Test::BraceAhead => sees_members(names, tokens),
         Test::EnumeratorsAhead => has_enumerators(names, tokens),
         Test::EnumeratorAhead => sees_enumerator(names, tokens),
