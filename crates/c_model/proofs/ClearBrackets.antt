@@ -65,6 +65,9 @@ kept act.CloseBlock s t h = left_keeps _ s s.frames
 kept _ s t h = refl
 
 pub closed_keeps : (n : Rule) (s : Scopes) → (close n s).brackets ≡ s.brackets
+closed_keeps r.Struct s = left_keeps _ s s.frames
+closed_keeps r.Enum s = left_keeps _ s s.frames
+closed_keeps r.Typeof s = left_keeps _ s s.frames
 closed_keeps r.If s = left_keeps _ s s.frames
 closed_keeps r.For s = left_keeps _ s s.frames
 closed_keeps _ s = refl

@@ -1,5 +1,5 @@
 -- What the parser's table derives or begins, the grammar does.
-use Rattle.std.proofs.Common.{◌≡◌, true, false, List, refl, subst}
+use Rattle.std.proofs.Common.{◌≡◌, true, false, List, [], ◌++◌, refl, subst}
 use Rattle.c_model.specs.declared.grammar.Rule.{Rule}
 use Rattle.c_model.specs.declared.grammar.Rule.TheVariants as r
 use Rattle.c_model.specs.declared.grammar.Test.{Test}
@@ -9,14 +9,14 @@ use Rattle.c_model.specs.declared.grammar.Tree.{Tree}
 use Rattle.c_model.specs.GrammarForm.{Form, word, rule, empty, ◌then◌, ◌or◌, maybe, many, when, loop}
 use Rattle.c_model.specs.NameScopes.{Scopes, start}
 use Rattle.c_model.specs.Derivation.{Derives, Begins}
-use Rattle.c_model.specs.Untested.{untested, open_choice, either}
+use Rattle.c_model.specs.Untested.{untested, open_choice, open_loop, either}
 use Rattle.c_model.specs.Grammar.{grammar}
 use Rattle.c_model.specs.ParserTable.{table}
 use Rattle.c_model.specs.SyntaxTree.{c_language}
 use Rattle.c_model.specs.ParserTests.{parsed, passes}
 
 pub same_table : (rule : Rule) → untested (table rule) ≡ grammar rule
-unfolding untested open_choice either table grammar
+unfolding untested open_choice open_loop either table grammar
 same_table r.Unit = refl
 same_table r.External = refl
 same_table r.Function = refl
@@ -114,6 +114,16 @@ choice_second test.HasParameters f g b d = Derives.other b d
 choice_second test.ElseAhead f g b d = Derives.other b d
 choice_second _ f g b d = or_else f g d
 
+loop_done : (p : Test) (f : Form) {s : Scopes} {ts : List Terminal} → passes p s ts ≡ false → Derives c_language (open_loop p f) s ts [] s ts
+unfolding open_loop
+loop_done test.TypeAhead f b = Derives.done b
+loop_done _ f b = Derives.stop
+
+loop_again : (p : Test) (f : Form) {s mid new : Scopes} {ts later rest : List Terminal} {xs ys zs : List Tree} → passes p s ts ≡ true → Derives c_language f s ts xs mid later → Derives c_language (open_loop p f) mid later ys new rest → zs ≡ xs ++ ys → Derives c_language (open_loop p f) s ts zs new rest
+unfolding open_loop
+loop_again test.TypeAhead f b d e q = Derives.again b d e q
+loop_again _ f b d e q = Derives.turn d e q
+
 pub forget : {f : Form} {s new : Scopes} {ts rest : List Terminal} {xs : List Tree} → Derives parsed f s ts xs new rest → Derives c_language (untested f) s ts xs new rest
 unfolding untested
 forget (Derives.a_word e) = Derives.a_word e
@@ -128,8 +138,8 @@ forget Derives.stop = Derives.stop
 forget (Derives.turn d e p) = Derives.turn (forget d) (forget e) p
 forget (Derives.chosen b d) = choice_first _ _ _ b (forget d)
 forget (Derives.other b d) = choice_second _ _ _ b (forget d)
-forget (Derives.done _) = Derives.stop
-forget (Derives.again _ d e p) = Derives.turn (forget d) (forget e) p
+forget (Derives.done b) = loop_done _ _ b
+forget (Derives.again b d e p) = loop_again _ _ b (forget d) (forget e) p
 
 -- likewise what is begun
 begun_either : (f g : Form) {s : Scopes} {ts rest : List Terminal} → Begins c_language f s ts rest → Begins c_language (either f g) s ts rest
@@ -168,6 +178,16 @@ begun_second test.HasParameters f g b d = Begins.in_other b d
 begun_second test.ElseAhead f g b d = Begins.in_other b d
 begun_second _ f g b d = begun_else f g d
 
+begun_again : (p : Test) (f : Form) {s : Scopes} {ts rest : List Terminal} → passes p s ts ≡ true → Begins c_language f s ts rest → Begins c_language (open_loop p f) s ts rest
+unfolding open_loop
+begun_again test.TypeAhead f b d = Begins.in_again b d
+begun_again _ f b d = Begins.in_turn d
+
+begun_further : (p : Test) (f : Form) {s mid : Scopes} {ts later rest : List Terminal} {xs : List Tree} → passes p s ts ≡ true → Derives c_language f s ts xs mid later → Begins c_language (open_loop p f) mid later rest → Begins c_language (open_loop p f) s ts rest
+unfolding open_loop
+begun_further test.TypeAhead f b d e = Begins.in_further b d e
+begun_further _ f b d e = Begins.in_later d e
+
 pub forget_begun : {f : Form} {s : Scopes} {ts rest : List Terminal} → Begins parsed f s ts rest → Begins c_language (untested f) s ts rest
 unfolding untested
 forget_begun Begins.yet = Begins.yet
@@ -182,8 +202,8 @@ forget_begun (Begins.in_turn d) = Begins.in_turn (forget_begun d)
 forget_begun (Begins.in_later d e) = Begins.in_later (forget d) (forget_begun e)
 forget_begun (Begins.in_chosen b d) = begun_first _ _ _ b (forget_begun d)
 forget_begun (Begins.in_other b d) = begun_second _ _ _ b (forget_begun d)
-forget_begun (Begins.in_again _ d) = Begins.in_turn (forget_begun d)
-forget_begun (Begins.in_further _ d e) = Begins.in_later (forget d) (forget_begun e)
+forget_begun (Begins.in_again b d) = begun_again _ _ b (forget_begun d)
+forget_begun (Begins.in_further b d e) = begun_further _ _ b (forget d) (forget_begun e)
 
 pub forget_unit : (ts : List Terminal) (xs : List Tree) (new : Scopes) (rest : List Terminal) → Derives parsed (rule r.Unit) start ts xs new rest → Derives c_language (rule r.Unit) start ts xs new rest
 unfolding untested

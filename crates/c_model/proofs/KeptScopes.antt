@@ -12,7 +12,7 @@ use Rattle.c_model.specs.declared.grammar.Frame.{Frame}
 use Rattle.c_model.specs.declared.grammar.Reading.{Reading}
 use Rattle.c_model.specs.declared.grammar.Tree.{Tree}
 use Rattle.c_model.specs.GrammarForm.{Form, word, rule, empty, ◌then◌, ◌or◌, maybe, many, when, loop}
-use Rattle.c_model.specs.NameScopes.{Scopes, after, close, leave, leave_parameters, parameters}
+use Rattle.c_model.specs.NameScopes.{Scopes, after, close, leave, specified, leave_parameters, parameters}
 use Rattle.c_model.specs.Derivation.{Derives}
 use Rattle.c_model.specs.ParserTable.{table}
 use Rattle.c_model.specs.ParserTests.{parsed}
@@ -25,6 +25,7 @@ opens act.OpenArray = true
 opens act.OpenParameters = true
 opens act.OpenScope = true
 opens act.OpenBlock = true
+opens act.OpenSpecifier = true
 opens _ = false
 
 unfoldable pub leaves : Act → Bool
@@ -48,6 +49,9 @@ declares _ = false
 
 -- the end of the nonterminal leaves a frame
 unfoldable pub leaves_last : Rule → Bool
+leaves_last r.Struct = true
+leaves_last r.Enum = true
+leaves_last r.Typeof = true
 leaves_last r.If = true
 leaves_last r.For = true
 leaves_last _ = false
@@ -191,6 +195,7 @@ still_frames act.OpenArray s t o l = absurd (cc)
 still_frames act.OpenParameters s t o l = absurd (cc)
 still_frames act.OpenScope s t o l = absurd (cc)
 still_frames act.OpenBlock s t o l = absurd (cc)
+still_frames act.OpenSpecifier s t o l = absurd (cc)
 still_frames act.CloseDeclarator s t o l = absurd (cc)
 still_frames act.CloseArray s t o l = absurd (cc)
 still_frames act.CloseParameters s t o l = absurd (cc)
@@ -204,6 +209,7 @@ still_entries act.OpenArray s t o l = absurd (cc)
 still_entries act.OpenParameters s t o l = absurd (cc)
 still_entries act.OpenScope s t o l = absurd (cc)
 still_entries act.OpenBlock s t o l = absurd (cc)
+still_entries act.OpenSpecifier s t o l = absurd (cc)
 still_entries act.CloseDeclarator s t o l = absurd (cc)
 still_entries act.CloseArray s t o l = absurd (cc)
 still_entries act.CloseParameters s t o l = absurd (cc)
@@ -218,6 +224,7 @@ opened_frames act.OpenArray s t o = refl
 opened_frames act.OpenParameters s t o = refl
 opened_frames act.OpenScope s t o = refl
 opened_frames act.OpenBlock s t o = refl
+opened_frames act.OpenSpecifier s t o = refl
 opened_frames _ s t o = absurd (cc)
 
 opened_entries : (a : Act) (s : Scopes) (t : Terminal) → opens a ≡ true → (more : List Entry) × ((after a s t).entries ≡ s.entries ++ more)
@@ -226,6 +233,7 @@ opened_entries act.OpenDeclarator s t o = ([], sym (nil s.entries))
 opened_entries act.OpenArray s t o = ([], sym (nil s.entries))
 opened_entries act.OpenParameters s t o = ([], sym (nil s.entries))
 opened_entries act.OpenScope s t o = ([], sym (nil s.entries))
+opened_entries act.OpenSpecifier s t o = ([], sym (nil s.entries))
 opened_entries act.OpenBlock s t o = (parameters s.reading.held, refl)
 opened_entries _ s t o = absurd (cc)
 
@@ -265,6 +273,7 @@ not_both act.OpenArray h = refl
 not_both act.OpenParameters h = refl
 not_both act.OpenScope h = refl
 not_both act.OpenBlock h = refl
+not_both act.OpenSpecifier h = refl
 not_both _ h = absurd (cc)
 
 back_to : (s mid : Scopes) (more : List Entry) (frame : Frame) → frame.count ≡ length s.entries → mid.entries ≡ s.entries ++ more → take frame.count mid.entries ≡ s.entries
@@ -334,6 +343,9 @@ plain_kept g d s mid new f e h k = record { frame = k.frame; more = k.more; fram
 
 ended : (n : Rule) (g : Bool) (s mid : Scopes) → (declares n || (leaves_last n || not g)) ≡ true → IsKept (leaves_last n) g s mid → IsKept false (declares n) s (close n mid)
 unfolding declares leaves_last
+ended r.Struct g s mid h k = left_kept g false _ s mid k
+ended r.Enum g s mid h k = left_kept g false _ s mid k
+ended r.Typeof g s mid h k = left_kept g false _ s mid k
 ended r.If g s mid h k = left_kept g false _ s mid k
 ended r.For g s mid h k = left_kept g false _ s mid k
 ended r.Declared g s mid h k = record { frame = k.frame; more = k.more ++ (record { name = mid.reading.name; is_type = mid.reading.is_typedef } ∷ []); frames = k.frames; counted = k.counted; entries = ap (λ z. z ++ (record { name = mid.reading.name; is_type = mid.reading.is_typedef } ∷ [])) k.entries ∙ append_assoc s.entries k.more _; ungrown = λ v. absurd (cc) }
@@ -418,3 +430,17 @@ unfolding nests is_grown
 same_entries n {s = s} h d =
     let k = kept d false false s refl (at_start s) in
     k.entries ∙ (ap (λ z. s.entries ++ z) (k.ungrown h) ∙ nil s.entries)
+
+-- behind a specifier that leaves its frame a type specifier stands before
+left_typed : (s : Scopes) (frame : Frame) (frames fs : List Frame) → fs ≡ frame ∷ frames → (leave specified s fs).reading.typed ≡ true
+left_typed s frame frames fs q = subst (λ z. (leave specified s z).reading.typed ≡ true) (sym q) refl
+
+pub specifier_typed : (n : Rule) {s mid : Scopes} {ts rest : List Terminal} {xs : List Tree} → leaves_last n ≡ true → Derives parsed (table n) s ts xs mid rest → (leave specified mid mid.frames).reading.typed ≡ true
+unfolding nested
+specifier_typed n {s = s} {mid = mid} l d =
+    let w = every n in
+    let v = and_right (nests (table n) false false) _ w in
+    let i = kept d false false s (and_left _ (same (is_open (table n) false) (leaves_last n) && (declares n || (leaves_last n || not (is_grown (table n) false)))) w) (at_start s) in
+    let q = same_bool (is_open (table n) false) (leaves_last n) (and_left _ (declares n || (leaves_last n || not (is_grown (table n) false))) v) in
+    let k = subst (λ z. IsKept z (is_grown (table n) false) s mid) (q ∙ l) i in
+    left_typed mid k.frame s.frames mid.frames k.frames

@@ -1,5 +1,5 @@
 -- Where a test chooses, either alternative may be taken without it.
-use Rattle.std.proofs.Common.{◌≡◌, true, false, List}
+use Rattle.std.proofs.Common.{◌≡◌, true, false, List, [], ◌++◌}
 use Rattle.c_model.specs.declared.grammar.Rule.{Rule}
 use Rattle.c_model.specs.declared.grammar.Test.{Test}
 use Rattle.c_model.specs.declared.grammar.Test.TheVariants as test
@@ -8,7 +8,7 @@ use Rattle.c_model.specs.declared.grammar.Tree.{Tree}
 use Rattle.c_model.specs.GrammarForm.{Form, word, rule, empty, ◌then◌, ◌or◌, maybe, many, when, loop}
 use Rattle.c_model.specs.NameScopes.{Scopes}
 use Rattle.c_model.specs.Derivation.{Language, Derives, Begins}
-use Rattle.c_model.specs.Untested.{untested, open_choice, either}
+use Rattle.c_model.specs.Untested.{untested, open_choice, open_loop, either}
 use Rattle.c_model.specs.ParserTests.{parsed, passes}
 
 module _ (body : Rule → Form) where
@@ -52,6 +52,16 @@ module _ (body : Rule → Form) where
   choice_second test.ElseAhead f g b d = Derives.other b d
   choice_second _ f g b d = or_else f g d
 
+  loop_done : (p : Test) (f : Form) {s : Scopes} {ts : List Terminal} → passes p s ts ≡ false → Derives over (open_loop p f) s ts [] s ts
+  unfolding open_loop
+  loop_done test.TypeAhead f b = Derives.done b
+  loop_done _ f b = Derives.stop
+
+  loop_again : (p : Test) (f : Form) {s mid new : Scopes} {ts later rest : List Terminal} {xs ys zs : List Tree} → passes p s ts ≡ true → Derives over f s ts xs mid later → Derives over (open_loop p f) mid later ys new rest → zs ≡ xs ++ ys → Derives over (open_loop p f) s ts zs new rest
+  unfolding open_loop
+  loop_again test.TypeAhead f b d e q = Derives.again b d e q
+  loop_again _ f b d e q = Derives.turn d e q
+
   pub loosen : {f : Form} {s new : Scopes} {ts rest : List Terminal} {xs : List Tree} → Derives over f s ts xs new rest → Derives over (untested f) s ts xs new rest
   unfolding untested
   loosen (Derives.a_word e) = Derives.a_word e
@@ -66,8 +76,8 @@ module _ (body : Rule → Form) where
   loosen (Derives.turn d e p) = Derives.turn (loosen d) (loosen e) p
   loosen (Derives.chosen b d) = choice_first _ _ _ b (loosen d)
   loosen (Derives.other b d) = choice_second _ _ _ b (loosen d)
-  loosen (Derives.done _) = Derives.stop
-  loosen (Derives.again _ d e p) = Derives.turn (loosen d) (loosen e) p
+  loosen (Derives.done b) = loop_done _ _ b
+  loosen (Derives.again b d e p) = loop_again _ _ b (loosen d) (loosen e) p
 
   -- likewise what is begun
   begun_either : (f g : Form) {s : Scopes} {ts rest : List Terminal} → Begins over f s ts rest → Begins over (either f g) s ts rest
@@ -106,6 +116,16 @@ module _ (body : Rule → Form) where
   begun_second test.ElseAhead f g b d = Begins.in_other b d
   begun_second _ f g b d = begun_else f g d
 
+  begun_again : (p : Test) (f : Form) {s : Scopes} {ts rest : List Terminal} → passes p s ts ≡ true → Begins over f s ts rest → Begins over (open_loop p f) s ts rest
+  unfolding open_loop
+  begun_again test.TypeAhead f b d = Begins.in_again b d
+  begun_again _ f b d = Begins.in_turn d
+
+  begun_further : (p : Test) (f : Form) {s mid : Scopes} {ts later rest : List Terminal} {xs : List Tree} → passes p s ts ≡ true → Derives over f s ts xs mid later → Begins over (open_loop p f) mid later rest → Begins over (open_loop p f) s ts rest
+  unfolding open_loop
+  begun_further test.TypeAhead f b d e = Begins.in_further b d e
+  begun_further _ f b d e = Begins.in_later d e
+
   pub loosen_begun : {f : Form} {s : Scopes} {ts rest : List Terminal} → Begins over f s ts rest → Begins over (untested f) s ts rest
   unfolding untested
   loosen_begun Begins.yet = Begins.yet
@@ -120,5 +140,5 @@ module _ (body : Rule → Form) where
   loosen_begun (Begins.in_later d e) = Begins.in_later (loosen d) (loosen_begun e)
   loosen_begun (Begins.in_chosen b d) = begun_first _ _ _ b (loosen_begun d)
   loosen_begun (Begins.in_other b d) = begun_second _ _ _ b (loosen_begun d)
-  loosen_begun (Begins.in_again _ d) = Begins.in_turn (loosen_begun d)
-  loosen_begun (Begins.in_further _ d e) = Begins.in_later (loosen d) (loosen_begun e)
+  loosen_begun (Begins.in_again b d) = begun_again _ _ b (loosen_begun d)
+  loosen_begun (Begins.in_further b d e) = begun_further _ _ b (loosen d) (loosen_begun e)

@@ -5,13 +5,14 @@ use Rattle.c_model.specs.declared.grammar.Rule.{Rule}
 use Rattle.c_model.specs.declared.grammar.Rule.TheVariants as r
 use Rattle.c_model.specs.declared.grammar.Terminal.{Terminal}
 use Rattle.c_model.specs.declared.grammar.Frame.{Frame}
+use Rattle.c_model.specs.declared.grammar.Reading.{Reading}
 use Rattle.c_model.specs.GrammarForm.{mem}
 use Rattle.c_model.specs.DecidedTable.{table_decided, decided, within, apart, first, leads, nullable}
 use Rattle.c_model.specs.ParserWalk.{IsQuiet}
 use Rattle.c_model.specs.ParserTable.{table}
 use Rattle.c_model.specs.ParserSets.{firsts, follows, hollow, tables}
 use Rattle.c_model.specs.ParserTests.{parsed}
-use Rattle.c_model.specs.NameScopes.{Scopes, kind, close, leave, fresh, is_type, bracket_kind}
+use Rattle.c_model.specs.NameScopes.{Scopes, kind, close, leave, fresh, specified, is_type, bracket_kind}
 
 pub checked : (rule : Rule) → table_decided tables rule (table rule) ≡ true
 unfolding table_decided decided within apart first leads nullable table firsts follows hollow mem
@@ -97,16 +98,19 @@ either_name F false false true false true other p q h = cc
 either_name F false false false true true other p q h = cc
 either_name F false false false false true other p q h = cc
 
--- the scope of `if` or `for` ends
-left : (F : List ℕ) (s : Scopes) (frames : List Frame) (t : Terminal) → mem 111 F ≡ mem 112 F → mem 112 F ≡ mem 113 F → mem (kind (leave (λ outer. fresh) s frames) t) F ≡ true → mem (kind s t) F ≡ true
-left F s [] t p q h = h
-left F s (frame ∷ frames) t p q h = either_name F false (is_type (take frame.count s.entries) t.name) _ _ (t.kind == 111) (bracket_kind s.brackets t.kind) p q h
+-- a frame is left
+left : (F : List ℕ) (g : Reading → Reading) (s : Scopes) (frames : List Frame) (t : Terminal) → mem 111 F ≡ mem 112 F → mem 112 F ≡ mem 113 F → mem (kind (leave g s frames) t) F ≡ true → mem (kind s t) F ≡ true
+left F g s [] t p q h = h
+left F g s (frame ∷ frames) t p q h = either_name F (g frame.reading).typed (is_type (take frame.count s.entries) t.name) _ _ (t.kind == 111) (bracket_kind s.brackets t.kind) p q h
 
 keeps : (rule : Rule) (s : Scopes) (t : Terminal) → mem (kind (close rule s) t) (follows rule) ≡ true → mem (kind s t) (follows rule) ≡ true
 unfolding follows mem
 keeps r.Declared s t h = either_name (follows r.Declared) s.reading.typed (is_type (close r.Declared s).entries t.name) s.reading.typed (is_type s.entries t.name) (t.kind == 111) (bracket_kind s.brackets t.kind) refl refl h
-keeps r.If s t h = left (follows r.If) s s.frames t refl refl h
-keeps r.For s t h = left (follows r.For) s s.frames t refl refl h
+keeps r.Struct s t h = left (follows r.Struct) specified s s.frames t refl refl h
+keeps r.Enum s t h = left (follows r.Enum) specified s s.frames t refl refl h
+keeps r.Typeof s t h = left (follows r.Typeof) specified s s.frames t refl refl h
+keeps r.If s t h = left (follows r.If) (λ outer. fresh) s s.frames t refl refl h
+keeps r.For s t h = left (follows r.For) (λ outer. fresh) s s.frames t refl refl h
 keeps _ s t h = h
 
 still : (rule : Rule) (s : Scopes) → hollow rule ≡ true → close rule s ≡ s

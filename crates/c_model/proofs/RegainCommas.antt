@@ -224,7 +224,7 @@ abbrev head : Form
 head = maybe (word (k.Name ∷ k.TypedefName ∷ []) act.TypeSpecifier)
 
 abbrev fixed : Form
-fixed = maybe (token k.Colon then rule r.Squals)
+fixed = maybe (word (k.Colon ∷ []) act.AwaitBraces then rule r.Squals)
 
 abbrev tail : Form
 tail = word (k.Name ∷ k.TypedefName ∷ []) act.TypeSpecifier then maybe (token k.Colon then rule r.Squals)
@@ -235,14 +235,14 @@ close = word (k.CloseBrace ∷ []) act.TypeSpecifier
 abbrev turns : Form
 turns = loop test.EnumeratorAhead (token k.Comma then rule r.Enumr)
 
-choice_derived : {s new : Scopes} {ts rest : List Terminal} {xs : List Tree} → Derives parsed (when test.EnumeratorsAhead enumerators tail) s ts xs new rest → Derives parsed (when test.EnumeratorsAhead (head then fixed then token k.OpenBrace then rule r.Enumr then turns then trailing then close) tail) s ts xs new rest
+choice_derived : {s new : Scopes} {ts rest : List Terminal} {xs : List Tree} → Derives parsed (when test.EnumeratorsAhead enumerators tail) s ts xs new rest → Derives parsed (when test.EnumeratorsAhead (head then fixed then word (k.OpenBrace ∷ []) act.Enclose then rule r.Enumr then turns then trailing then close) tail) s ts xs new rest
 choice_derived (Derives.chosen a (Derives.both b (Derives.both c (Derives.both d (Derives.both e (Derives.both l (Derives.both t z q6) q5) q4) q3) q2) q1)) =
     Derives.chosen a (Derives.both b (Derives.both c (Derives.both d (Derives.both e (Derives.both (list_derived test.EnumeratorAhead r.Enumr names act.TypeSpecifier l t z) (Derives.both t z q6) q5) q4) q3) q2) q1)
 choice_derived (Derives.other a d) = Derives.other a d
 
-choice_begun : {s : Scopes} {ts rest : List Terminal} → Begins parsed (when test.EnumeratorsAhead enumerators tail) s ts rest → Begins parsed (when test.EnumeratorsAhead (head then fixed then token k.OpenBrace then rule r.Enumr then turns then trailing then close) tail) s ts rest
+choice_begun : {s : Scopes} {ts rest : List Terminal} → Begins parsed (when test.EnumeratorsAhead enumerators tail) s ts rest → Begins parsed (when test.EnumeratorsAhead (head then fixed then word (k.OpenBrace ∷ []) act.Enclose then rule r.Enumr then turns then trailing then close) tail) s ts rest
 choice_begun Begins.yet = Begins.yet
-choice_begun (Begins.in_chosen a d) = Begins.in_chosen a (then_begun head _ _ (λ s ts rest b. then_begun fixed _ _ (λ s ts rest c. then_begun (token k.OpenBrace) _ _ (λ s ts rest e. then_begun (rule r.Enumr) _ _ (λ s ts rest l. list_begun test.EnumeratorAhead r.Enumr names act.TypeSpecifier l) e) c) b) d)
+choice_begun (Begins.in_chosen a d) = Begins.in_chosen a (then_begun head _ _ (λ s ts rest b. then_begun fixed _ _ (λ s ts rest c. then_begun (word (k.OpenBrace ∷ []) act.Enclose) _ _ (λ s ts rest e. then_begun (rule r.Enumr) _ _ (λ s ts rest l. list_begun test.EnumeratorAhead r.Enumr names act.TypeSpecifier l) e) c) b) d)
 choice_begun (Begins.in_other a d) = Begins.in_other a d
 
 enum_derived : (s new : Scopes) (ts rest : List Terminal) (xs : List Tree) → Derives parsed (open_table r.Enum) s ts xs new rest → Derives parsed (table r.Enum) s ts xs new rest
@@ -251,7 +251,7 @@ enum_derived s new ts rest xs (Derives.both w (Derives.both a c q) p) = Derives.
 
 enum_begun : (s : Scopes) (ts rest : List Terminal) → Begins parsed (open_table r.Enum) s ts rest → Begins parsed (table r.Enum) s ts rest
 unfolding open_table table
-enum_begun s ts rest d = then_begun (token k.Enum) _ _ (λ s ts rest b. then_begun (rule r.Attrs) _ _ (λ s ts rest c. choice_begun c) b) d
+enum_begun s ts rest d = then_begun (word (k.Enum ∷ []) act.OpenSpecifier) _ _ (λ s ts rest b. then_begun (rule r.Attrs) _ _ (λ s ts rest c. choice_begun c) b) d
 
 pub enumeration : IsRegained r.Enum
 enumeration = record { derived = λ s new ts rest xs c d h. record { trees = xs; is = enum_derived s new ts rest xs d }; begun = λ s ts rest c d. enum_begun s ts rest d }

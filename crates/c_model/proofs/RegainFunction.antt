@@ -42,11 +42,11 @@ there {s = s} {mid = mid} {m = m} {ts = ts} {later = later} {rest = rest} c a d 
     let f = begins_with refl d in
     let b = open_behind (firsts r.Specs) specifiers_plain c a f in
     let i : IsSame s mid = record { entries = ap (λ z. z.entries) b.state; clear = ap (λ z. z.brackets) b.state ∙ c } in
-    let w = specifiers_over false s i d in
+    let w = specifiers_over s i d in
     let j = specifiers_same s i d in
     let k : may_come r.Specs s (past_attributes 0 ts) ≡ true = subst (λ z. may_come r.Specs s z ≡ true) (sym b.past) (comes r.Specs s later (subst (λ z. mem (ahead tables parsed z later) (firsts r.Specs) ≡ true) b.state f) no_end) in
-    let p : past_specifiers false (Between s.reading.typed) s (past_attributes 0 ts) ≡ rest =
-    ap (λ z. past_specifiers false (Between s.reading.typed) s z) b.past ∙ (ap (λ z. past_specifiers false (Between z.reading.typed) s later) (sym b.state) ∙ (w.scanned ∙ specifiers_end w.last s m rest j h)) in
+    let p : past_specifiers (Between s.reading.typed) s (past_attributes 0 ts) ≡ rest =
+    ap (λ z. past_specifiers (Between s.reading.typed) s z) b.past ∙ (ap (λ z. past_specifiers (Between z.reading.typed) s later) (sym b.state) ∙ (w ∙ specifiers_end s m rest j h)) in
     record { seen = rw k (ap (λ z. sees 70 (past_declarator 0 z)) p); clear = j.clear }
 
 declared_first : within tables (firsts r.Declared) behind ≡ true

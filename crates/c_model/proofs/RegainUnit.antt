@@ -96,7 +96,7 @@ abbrev tail : Form
 tail = word (k.Name ∷ k.TypedefName ∷ []) act.TypeSpecifier then maybe (token k.Colon then rule r.Squals)
 
 abbrev closed : Form
-closed = maybe (word (k.Name ∷ k.TypedefName ∷ []) act.TypeSpecifier) then maybe (token k.Colon then rule r.Squals) then token k.OpenBrace then rule r.Enumr then loop test.EnumeratorAhead (token k.Comma then rule r.Enumr) then maybe (token k.Comma) then word (k.CloseBrace ∷ []) act.TypeSpecifier
+closed = maybe (word (k.Name ∷ k.TypedefName ∷ []) act.TypeSpecifier) then maybe (word (k.Colon ∷ []) act.AwaitBraces then rule r.Squals) then word (k.OpenBrace ∷ []) act.Enclose then rule r.Enumr then loop test.EnumeratorAhead (token k.Comma then rule r.Enumr) then maybe (token k.Comma) then word (k.CloseBrace ∷ []) act.TypeSpecifier
 
 choice_back : {s new : Scopes} {ts rest : List Terminal} {xs : List Tree} → Derives opened (when test.EnumeratorsAhead closed tail) s ts xs new rest → Derives opened (when test.EnumeratorsAhead enumerators tail) s ts xs new rest
 choice_back (Derives.chosen a (Derives.both b (Derives.both c (Derives.both d (Derives.both e (Derives.both l z q5) q4) q3) q2) q1)) = Derives.chosen a (Derives.both b (Derives.both c (Derives.both d (Derives.both e (Derives.both (enumerated l) z q5) q4) q3) q2) q1)

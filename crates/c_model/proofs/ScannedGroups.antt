@@ -30,37 +30,37 @@ pub or_false : (b : Bool) → (b || false) ≡ b
 or_false true = refl
 or_false false = refl
 
-group_opening : (n : ℕ) (fixed : Bool) (s : Scopes) (t : Terminal) (ts : List Terminal) → is_opening t.kind ≡ true → past_specifiers fixed (Group (suc n)) s (t ∷ ts) ≡ past_specifiers fixed (Group (suc (suc n))) s ts
+group_opening : (n : ℕ) (s : Scopes) (t : Terminal) (ts : List Terminal) → is_opening t.kind ≡ true → past_specifiers (Group (suc n)) s (t ∷ ts) ≡ past_specifiers (Group (suc (suc n))) s ts
 unfolding past_specifiers specifier_step
-group_opening n fixed s t ts o = rw (o, positive n, one_more n, or_false fixed) refl
+group_opening n s t ts o = rw (o, one_more n, positive (suc n)) refl
 
-group_closing : (n : ℕ) (fixed : Bool) (s : Scopes) (t : Terminal) (ts : List Terminal) → is_closing t.kind ≡ true → past_specifiers fixed (Group (suc (suc n))) s (t ∷ ts) ≡ past_specifiers fixed (Group (suc n)) s ts
+group_closing : (n : ℕ) (s : Scopes) (t : Terminal) (ts : List Terminal) → is_closing t.kind ≡ true → past_specifiers (Group (suc (suc n))) s (t ∷ ts) ≡ past_specifiers (Group (suc n)) s ts
 unfolding past_specifiers specifier_step
-group_closing n fixed s t ts c = rw (not_both t.kind c, c, positive (suc n), not_one n, one_less n, or_false fixed) refl
+group_closing n s t ts c = rw (not_both t.kind c, c, one_less n, positive n) refl
 
-group_end : (fixed : Bool) (s : Scopes) (t : Terminal) (ts : List Terminal) → is_closing t.kind ≡ true → past_specifiers fixed (Group 1) s (t ∷ ts) ≡ past_specifiers fixed (Between true) s ts
+group_end : (s : Scopes) (t : Terminal) (ts : List Terminal) → is_closing t.kind ≡ true → past_specifiers (Group 1) s (t ∷ ts) ≡ past_specifiers (Between true) s ts
 unfolding past_specifiers specifier_step
-group_end fixed s t ts c = rw (not_both t.kind c, c, or_false fixed) refl
+group_end s t ts c = rw (not_both t.kind c, c) refl
 
-group_other : (n : ℕ) (fixed : Bool) (s : Scopes) (t : Terminal) (ts : List Terminal) → is_opening t.kind ≡ false → is_closing t.kind ≡ false → past_specifiers fixed (Group (suc n)) s (t ∷ ts) ≡ past_specifiers fixed (Group (suc n)) s ts
+group_other : (n : ℕ) (s : Scopes) (t : Terminal) (ts : List Terminal) → is_opening t.kind ≡ false → is_closing t.kind ≡ false → past_specifiers (Group (suc n)) s (t ∷ ts) ≡ past_specifiers (Group (suc n)) s ts
 unfolding past_specifiers specifier_step
-group_other n fixed s t ts o c = rw (o, c, positive n, or_false fixed) refl
+group_other n s t ts o c = rw (o, c, positive n) refl
 
-attribute_opening : (n : ℕ) (fixed : Bool) (s : Scopes) (t : Terminal) (ts : List Terminal) → is_opening t.kind ≡ true → past_specifiers fixed (Attribute (suc n)) s (t ∷ ts) ≡ past_specifiers fixed (Attribute (suc (suc n))) s ts
+attribute_opening : (n : ℕ) (b : Bool) (s : Scopes) (t : Terminal) (ts : List Terminal) → is_opening t.kind ≡ true → past_specifiers (Attribute b (suc n)) s (t ∷ ts) ≡ past_specifiers (Attribute b (suc (suc n))) s ts
 unfolding past_specifiers specifier_step
-attribute_opening n fixed s t ts o = rw (o, positive n, one_more n, or_false fixed) refl
+attribute_opening n b s t ts o = rw (o, one_more n, positive (suc n)) refl
 
-attribute_closing : (n : ℕ) (fixed : Bool) (s : Scopes) (t : Terminal) (ts : List Terminal) → is_closing t.kind ≡ true → past_specifiers fixed (Attribute (suc (suc n))) s (t ∷ ts) ≡ past_specifiers fixed (Attribute (suc n)) s ts
+attribute_closing : (n : ℕ) (b : Bool) (s : Scopes) (t : Terminal) (ts : List Terminal) → is_closing t.kind ≡ true → past_specifiers (Attribute b (suc (suc n))) s (t ∷ ts) ≡ past_specifiers (Attribute b (suc n)) s ts
 unfolding past_specifiers specifier_step
-attribute_closing n fixed s t ts c = rw (not_both t.kind c, c, positive (suc n), not_one n, one_less n, or_false fixed) refl
+attribute_closing n b s t ts c = rw (not_both t.kind c, c, one_less n, positive n) refl
 
-attribute_end : (fixed : Bool) (s : Scopes) (t : Terminal) (ts : List Terminal) → is_closing t.kind ≡ true → past_specifiers fixed (Attribute 1) s (t ∷ ts) ≡ past_specifiers fixed BehindHead s ts
+attribute_end : (b : Bool) (s : Scopes) (t : Terminal) (ts : List Terminal) → is_closing t.kind ≡ true → past_specifiers (Attribute b 1) s (t ∷ ts) ≡ past_specifiers (BehindHead b) s ts
 unfolding past_specifiers specifier_step
-attribute_end fixed s t ts c = rw (not_both t.kind c, c, or_false fixed) refl
+attribute_end b s t ts c = rw (not_both t.kind c, c) refl
 
-attribute_other : (n : ℕ) (fixed : Bool) (s : Scopes) (t : Terminal) (ts : List Terminal) → is_opening t.kind ≡ false → is_closing t.kind ≡ false → past_specifiers fixed (Attribute (suc n)) s (t ∷ ts) ≡ past_specifiers fixed (Attribute (suc n)) s ts
+attribute_other : (n : ℕ) (b : Bool) (s : Scopes) (t : Terminal) (ts : List Terminal) → is_opening t.kind ≡ false → is_closing t.kind ≡ false → past_specifiers (Attribute b (suc n)) s (t ∷ ts) ≡ past_specifiers (Attribute b (suc n)) s ts
 unfolding past_specifiers specifier_step
-attribute_other n fixed s t ts o c = rw (o, c, positive n, or_false fixed) refl
+attribute_other n b s t ts o c = rw (o, c, positive n) refl
 
 declarator_opening : (n : ℕ) (t : Terminal) (ts : List Terminal) → is_opening t.kind ≡ true → past_declarator (suc n) (t ∷ ts) ≡ past_declarator (suc (suc n)) ts
 unfolding past_declarator
@@ -87,27 +87,27 @@ brackets_other : (n : ℕ) (t : Terminal) (ts : List Terminal) → is_opening t.
 unfolding past_brackets
 brackets_other n t ts o c = rw (o, c) refl
 
-pub over_group : (ts : List Terminal) (n : ℕ) (fixed : Bool) (s : Scopes) → past_specifiers fixed (Group (suc n)) s ts ≡ past_specifiers fixed (Between true) s (past_brackets (suc n) ts)
+pub over_group : (ts : List Terminal) (n : ℕ) (s : Scopes) → past_specifiers (Group (suc n)) s ts ≡ past_specifiers (Between true) s (past_brackets (suc n) ts)
 unfolding past_specifiers past_brackets
-over_group [] n fixed s = refl
-over_group (t ∷ ts) n fixed s = by (is_opening t.kind) (is_closing t.kind) refl refl (λ k. over_group ts k fixed s) n
+over_group [] n s = refl
+over_group (t ∷ ts) n s = by (is_opening t.kind) (is_closing t.kind) refl refl (λ k. over_group ts k s) n
   where
-    by : (o c : Bool) → is_opening t.kind ≡ o → is_closing t.kind ≡ c → ((k : ℕ) → past_specifiers fixed (Group (suc k)) s ts ≡ past_specifiers fixed (Between true) s (past_brackets (suc k) ts)) → (n : ℕ) → past_specifiers fixed (Group (suc n)) s (t ∷ ts) ≡ past_specifiers fixed (Between true) s (past_brackets (suc n) (t ∷ ts))
-    by true c o q f n = group_opening n fixed s t ts o ∙ (f (suc n) ∙ ap (λ z. past_specifiers fixed (Between true) s z) (sym (brackets_opening n t ts o)))
-    by false true o c f zero = group_end fixed s t ts c ∙ ap (λ z. past_specifiers fixed (Between true) s z) (sym (last_closing t ts c))
-    by false true o c f (suc n) = group_closing n fixed s t ts c ∙ (f n ∙ ap (λ z. past_specifiers fixed (Between true) s z) (sym (brackets_closing n t ts c)))
-    by false false o c f n = group_other n fixed s t ts o c ∙ (f n ∙ ap (λ z. past_specifiers fixed (Between true) s z) (sym (brackets_other n t ts o c)))
+    by : (o c : Bool) → is_opening t.kind ≡ o → is_closing t.kind ≡ c → ((k : ℕ) → past_specifiers (Group (suc k)) s ts ≡ past_specifiers (Between true) s (past_brackets (suc k) ts)) → (n : ℕ) → past_specifiers (Group (suc n)) s (t ∷ ts) ≡ past_specifiers (Between true) s (past_brackets (suc n) (t ∷ ts))
+    by true c o q f n = group_opening n s t ts o ∙ (f (suc n) ∙ ap (λ z. past_specifiers (Between true) s z) (sym (brackets_opening n t ts o)))
+    by false true o c f zero = group_end s t ts c ∙ ap (λ z. past_specifiers (Between true) s z) (sym (last_closing t ts c))
+    by false true o c f (suc n) = group_closing n s t ts c ∙ (f n ∙ ap (λ z. past_specifiers (Between true) s z) (sym (brackets_closing n t ts c)))
+    by false false o c f n = group_other n s t ts o c ∙ (f n ∙ ap (λ z. past_specifiers (Between true) s z) (sym (brackets_other n t ts o c)))
 
-pub over_attribute : (ts : List Terminal) (n : ℕ) (fixed : Bool) (s : Scopes) → past_specifiers fixed (Attribute (suc n)) s ts ≡ past_specifiers fixed BehindHead s (past_brackets (suc n) ts)
+pub over_attribute : (ts : List Terminal) (n : ℕ) (b : Bool) (s : Scopes) → past_specifiers (Attribute b (suc n)) s ts ≡ past_specifiers (BehindHead b) s (past_brackets (suc n) ts)
 unfolding past_specifiers past_brackets
-over_attribute [] n fixed s = refl
-over_attribute (t ∷ ts) n fixed s = by (is_opening t.kind) (is_closing t.kind) refl refl (λ k. over_attribute ts k fixed s) n
+over_attribute [] n b s = refl
+over_attribute (t ∷ ts) n b s = by (is_opening t.kind) (is_closing t.kind) refl refl (λ k. over_attribute ts k b s) n
   where
-    by : (o c : Bool) → is_opening t.kind ≡ o → is_closing t.kind ≡ c → ((k : ℕ) → past_specifiers fixed (Attribute (suc k)) s ts ≡ past_specifiers fixed BehindHead s (past_brackets (suc k) ts)) → (n : ℕ) → past_specifiers fixed (Attribute (suc n)) s (t ∷ ts) ≡ past_specifiers fixed BehindHead s (past_brackets (suc n) (t ∷ ts))
-    by true c o q f n = attribute_opening n fixed s t ts o ∙ (f (suc n) ∙ ap (λ z. past_specifiers fixed BehindHead s z) (sym (brackets_opening n t ts o)))
-    by false true o c f zero = attribute_end fixed s t ts c ∙ ap (λ z. past_specifiers fixed BehindHead s z) (sym (last_closing t ts c))
-    by false true o c f (suc n) = attribute_closing n fixed s t ts c ∙ (f n ∙ ap (λ z. past_specifiers fixed BehindHead s z) (sym (brackets_closing n t ts c)))
-    by false false o c f n = attribute_other n fixed s t ts o c ∙ (f n ∙ ap (λ z. past_specifiers fixed BehindHead s z) (sym (brackets_other n t ts o c)))
+    by : (o c : Bool) → is_opening t.kind ≡ o → is_closing t.kind ≡ c → ((k : ℕ) → past_specifiers (Attribute b (suc k)) s ts ≡ past_specifiers (BehindHead b) s (past_brackets (suc k) ts)) → (n : ℕ) → past_specifiers (Attribute b (suc n)) s (t ∷ ts) ≡ past_specifiers (BehindHead b) s (past_brackets (suc n) (t ∷ ts))
+    by true c o q f n = attribute_opening n b s t ts o ∙ (f (suc n) ∙ ap (λ z. past_specifiers (BehindHead b) s z) (sym (brackets_opening n t ts o)))
+    by false true o c f zero = attribute_end b s t ts c ∙ ap (λ z. past_specifiers (BehindHead b) s z) (sym (last_closing t ts c))
+    by false true o c f (suc n) = attribute_closing n b s t ts c ∙ (f n ∙ ap (λ z. past_specifiers (BehindHead b) s z) (sym (brackets_closing n t ts c)))
+    by false false o c f n = attribute_other n b s t ts o c ∙ (f n ∙ ap (λ z. past_specifiers (BehindHead b) s z) (sym (brackets_other n t ts o c)))
 
 pub over_declarator : (ts : List Terminal) (n : ℕ) → past_declarator (suc n) ts ≡ past_declarator 0 (past_brackets (suc n) ts)
 unfolding past_declarator past_brackets

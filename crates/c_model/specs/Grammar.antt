@@ -1,18 +1,25 @@
 -- The grammar of a translation unit (ISO/IEC 9899:2024, annex A.3, and what the language adds and leaves out). No
--- production looks ahead at tokens but one: `else` belongs to the nearest `if` (6.8.5.2), so the statement of an `if` has
--- it wherever it comes next. The other test asks the scopes whether a function's parameters stand next to the missing
+-- production looks ahead at tokens but two: `else` belongs to the nearest `if` (6.8.5.2), so the statement of an `if` has
+-- it wherever it comes next; and a list of type specifiers and qualifiers has each that comes next, so behind the `:` of
+-- an enumeration they are those of its type (6.7.3.3, paragraph 5). The other test asks the scopes whether a function's parameters stand next to the missing
 -- name of a type name. Where an array may follow attributes, they stand one by one, as `Attrs` has them.
 use Rattle.std.specs.Prelude.{ℕ, Bool, true, false, List, [], ◌∷◌}
 use Rattle.c_model.specs.declared.grammar.Rule.{Rule}
 use Rattle.c_model.specs.declared.grammar.Rule.TheVariants as r
 use Rattle.c_model.specs.declared.grammar.Act.TheVariants as act
 use Rattle.c_model.specs.declared.grammar.Test.TheVariants as test
-use Rattle.c_model.specs.GrammarForm.{Form, word, rule, empty, ◌then◌, ◌or◌, maybe, many, when}
+use Rattle.c_model.specs.GrammarForm.{Form, word, rule, empty, ◌then◌, ◌or◌, maybe, many, when, loop}
 use Rattle.c_model.specs.Terminals as k
 
 -- a token of one kind that is no part of specifiers or of a declarator
 abbrev pub token : ℕ → Form
 token kind = word (kind ∷ []) act.Pass
+
+-- what a type specifier or a qualifier begins with
+abbrev pub type_kinds : List ℕ
+type_kinds =
+    k.Void ∷ k.Char ∷ k.Short ∷ k.Int ∷ k.Long ∷ k.Signed ∷ k.Unsigned ∷ k.Bool ∷ k.OldBool ∷ k.Typeof ∷
+    k.TypeofUnqual ∷ k.Const ∷ k.Restrict ∷ k.Owner ∷ k.View ∷ k.Opt ∷ k.Struct ∷ k.Enum ∷ k.TypedefName ∷ []
 
 -- any token but a bracket
 abbrev pub others : List ℕ
@@ -63,19 +70,19 @@ grammar r.Typespec =
     or word (k.TypedefName ∷ []) act.TypeSpecifier
     or rule r.Typeof
 grammar r.Qual = word (k.Const ∷ k.Restrict ∷ k.Owner ∷ k.View ∷ k.Opt ∷ []) act.Specifier
-grammar r.Squals = (rule r.Typespec or rule r.Qual) then many (rule r.Typespec or rule r.Qual)
+grammar r.Squals = (rule r.Typespec or rule r.Qual) then loop test.TypeAhead (rule r.Typespec or rule r.Qual)
 grammar r.Struct =
-    token k.Struct then rule r.Attrs
+    word (k.Struct ∷ []) act.OpenSpecifier then rule r.Attrs
     then (word (k.Name ∷ k.TypedefName ∷ []) act.TypeSpecifier then maybe (rule r.Members) or rule r.Members)
 grammar r.Members =
-    token k.OpenBrace then rule r.Member then many (rule r.Member)
+    word (k.OpenBrace ∷ []) act.Enclose then rule r.Member then many (rule r.Member)
     then word (k.CloseBrace ∷ []) act.TypeSpecifier
 grammar r.Member =
     rule r.Attrs then rule r.Squals then rule r.Declarator then many (word (k.Comma ∷ []) act.NextDeclarator then rule r.Declarator) then token k.Semicolon
     or rule r.Sassert
 grammar r.Enum =
-    token k.Enum then rule r.Attrs
-    then (maybe (word (k.Name ∷ k.TypedefName ∷ []) act.TypeSpecifier) then maybe (token k.Colon then rule r.Squals) then token k.OpenBrace then rule r.Enumr then many (token k.Comma then rule r.Enumr) then maybe (token k.Comma) then word (k.CloseBrace ∷ []) act.TypeSpecifier or word (k.Name ∷ k.TypedefName ∷ []) act.TypeSpecifier then maybe (token k.Colon then rule r.Squals))
+    word (k.Enum ∷ []) act.OpenSpecifier then rule r.Attrs
+    then (maybe (word (k.Name ∷ k.TypedefName ∷ []) act.TypeSpecifier) then maybe (word (k.Colon ∷ []) act.AwaitBraces then rule r.Squals) then word (k.OpenBrace ∷ []) act.Enclose then rule r.Enumr then many (token k.Comma then rule r.Enumr) then maybe (token k.Comma) then word (k.CloseBrace ∷ []) act.TypeSpecifier or word (k.Name ∷ k.TypedefName ∷ []) act.TypeSpecifier then maybe (token k.Colon then rule r.Squals))
 grammar r.Enumr = token k.Name then rule r.Attrs then maybe (token k.Equals then rule r.Cond)
 grammar r.Declarator =
     many (word (k.Star ∷ []) act.Pointer then rule r.Attrs then many (rule r.Qual)) then rule r.Direct
@@ -157,7 +164,7 @@ grammar r.Declared = rule r.Declarator
 grammar r.ParamSpecs = rule r.Specs
 grammar r.Body = rule r.Block
 grammar r.Typeof =
-    word (k.Typeof ∷ k.TypeofUnqual ∷ []) act.Pass then token k.OpenParenthesis
+    word (k.Typeof ∷ k.TypeofUnqual ∷ []) act.OpenSpecifier then word (k.OpenParenthesis ∷ []) act.Enclose
     then (rule r.Expr or rule r.Typename) then word (k.CloseParenthesis ∷ []) act.TypeSpecifier
 grammar r.If =
     token k.If then word (k.OpenParenthesis ∷ []) act.OpenScope then maybe (rule r.Declaration)

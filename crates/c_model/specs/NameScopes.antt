@@ -1,7 +1,7 @@
 -- The scopes in which the grammar tells typedef names from other identifiers, and what each token does to them
 -- (ISO/IEC 9899:2024, 6.2.1, 6.7.9). A name enters its scope at the end of its declarator. An enumerator changes the
 -- class of no identifier, since it is no typedef name before it and none behind it, and enters none.
-use Rattle.std.specs.Prelude.{ℕ, Bool, true, false, not, ◌&&◌, ◌||◌, ◌==◌, if◌then◌else◌, List, [], ◌∷◌, ◌++◌, length, take, drop, fold, Option, Some, None}
+use Rattle.std.specs.Prelude.{ℕ, ◌+◌, Bool, true, false, not, ◌&&◌, ◌||◌, ◌==◌, if◌then◌else◌, List, [], ◌∷◌, ◌++◌, length, take, drop, fold, Option, Some, None}
 use Rattle.c_model.specs.declared.grammar.Act.{Act}
 use Rattle.c_model.specs.declared.grammar.Act.TheVariants as act
 use Rattle.c_model.specs.declared.grammar.Rule.{Rule}
@@ -21,7 +21,7 @@ pub record Scopes : Type 0 where
   pub brackets : List ℕ
 
 abbrev pub fresh : Reading
-fresh = record { is_typedef = false; name = 0; typed = false; parameter = false; near = false; pointer = false; held = None }
+fresh = record { is_typedef = false; name = 0; typed = false; parameter = false; near = false; pointer = false; held = None; waiting = 0 }
 
 abbrev pub start : Scopes
 start = record { entries = []; reading = fresh; frames = []; brackets = [] }
@@ -58,7 +58,11 @@ kind s t = if t.kind == k.Name then (if is_type s.entries t.name then (if s.read
 
 -- a token that is no part of specifiers or of a declarator
 abbrev pub passed : Reading → Reading
-passed reading = record fresh { is_typedef = reading.is_typedef; name = reading.name }
+passed reading = record fresh { is_typedef = reading.is_typedef; name = reading.name; waiting = reading.waiting }
+
+-- behind a type specifier
+abbrev pub specified : Reading → Reading
+specified reading = record reading { typed = true; near = true; held = None }
 
 abbrev pub with_frame : Scopes → Reading → Scopes
 with_frame s reading = record s { reading = reading; frames = record { count = length s.entries; reading = s.reading } ∷ s.frames }
@@ -88,7 +92,10 @@ after act.Pass s t = record s { reading = passed s.reading }
 after act.Keep s t = s
 after act.Specifier s t = record s { reading = record s.reading { near = true; held = None } }
 after act.Typedef s t = record s { reading = record s.reading { is_typedef = true; near = true; held = None } }
-after act.TypeSpecifier s t = record s { reading = record s.reading { typed = true; near = true; held = None } }
+after act.TypeSpecifier s t = record s { reading = specified s.reading }
+after act.OpenSpecifier s t = with_frame s (record fresh { waiting = s.reading.waiting })
+after act.Enclose s t = record s { reading = fresh }
+after act.AwaitBraces s t = record s { reading = record fresh { waiting = s.reading.waiting + 1 } }
 after act.Pointer s t = record s { reading = record s.reading { typed = true; near = true; pointer = true } }
 after act.OpenDeclarator s t = with_frame s (record fresh { typed = not s.reading.parameter; parameter = s.reading.parameter; near = true })
 after act.CloseDeclarator s t = leave (λ outer. record outer { name = s.reading.name; near = s.reading.near && not s.reading.pointer; held = s.reading.held }) s s.frames
@@ -106,11 +113,15 @@ after act.CloseBlock s t = leave passed s s.frames
 after act.OpenBalanced s t = record s { brackets = t.kind ∷ s.brackets }
 after act.CloseBalanced s t = record s { brackets = without_last s.brackets }
 
--- what the scopes are at the end of a nonterminal: a declarator's name enters, and the scope of `if` or `for` ends
+-- what the scopes are at the end of a nonterminal: a declarator's name enters, the scope of `if` or `for` ends, and behind
+-- a specifier its declaration goes on
 abbrev pub close : Rule → Scopes → Scopes
 close r.Declared s = record s { entries = s.entries ++ record { name = s.reading.name; is_type = s.reading.is_typedef } ∷ [] }
 close r.ParamSpecs s = record s { reading = record s.reading { parameter = true } }
 close r.Body s = record s { reading = record s.reading { is_typedef = false } }
+close r.Struct s = leave specified s s.frames
+close r.Enum s = leave specified s s.frames
+close r.Typeof s = leave specified s s.frames
 close r.If s = leave (λ outer. fresh) s s.frames
 close r.For s = leave (λ outer. fresh) s s.frames
 close _ s = s

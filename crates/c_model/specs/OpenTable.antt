@@ -16,10 +16,10 @@ use Rattle.c_model.specs.ParserTests.{parsed}
 
 -- an enumeration with its enumerators
 abbrev pub enumerators : Form
-enumerators = maybe (word (k.Name ∷ k.TypedefName ∷ []) act.TypeSpecifier) then maybe (token k.Colon then rule r.Squals) then token k.OpenBrace then rule r.Enumr then many (token k.Comma then rule r.Enumr) then maybe (token k.Comma) then word (k.CloseBrace ∷ []) act.TypeSpecifier
+enumerators = maybe (word (k.Name ∷ k.TypedefName ∷ []) act.TypeSpecifier) then maybe (word (k.Colon ∷ []) act.AwaitBraces then rule r.Squals) then word (k.OpenBrace ∷ []) act.Enclose then rule r.Enumr then many (token k.Comma then rule r.Enumr) then maybe (token k.Comma) then word (k.CloseBrace ∷ []) act.TypeSpecifier
 
 unfoldable pub open_table : Rule → Form
-open_table r.Enum = token k.Enum then rule r.Attrs then when test.EnumeratorsAhead enumerators (word (k.Name ∷ k.TypedefName ∷ []) act.TypeSpecifier then maybe (token k.Colon then rule r.Squals))
+open_table r.Enum = word (k.Enum ∷ []) act.OpenSpecifier then rule r.Attrs then when test.EnumeratorsAhead enumerators (word (k.Name ∷ k.TypedefName ∷ []) act.TypeSpecifier then maybe (token k.Colon then rule r.Squals))
 open_table r.External = grammar r.External
 open_table r.Declaration = grammar r.Declaration
 open_table r.Block = grammar r.Block

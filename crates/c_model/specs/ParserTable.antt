@@ -40,17 +40,17 @@ table r.Typespec =
 table r.Qual = word (k.Const ∷ k.Restrict ∷ k.Owner ∷ k.View ∷ k.Opt ∷ []) act.Specifier
 table r.Squals = (rule r.Typespec or rule r.Qual) then loop test.TypeAhead (rule r.Typespec or rule r.Qual)
 table r.Struct =
-    token k.Struct then rule r.Attrs
+    word (k.Struct ∷ []) act.OpenSpecifier then rule r.Attrs
     then (word (k.Name ∷ k.TypedefName ∷ []) act.TypeSpecifier then when test.BraceAhead (rule r.Members) empty or rule r.Members)
 table r.Members =
-    token k.OpenBrace then rule r.Member then many (rule r.Member)
+    word (k.OpenBrace ∷ []) act.Enclose then rule r.Member then many (rule r.Member)
     then word (k.CloseBrace ∷ []) act.TypeSpecifier
 table r.Member =
     rule r.Attrs then rule r.Squals then rule r.Declarator then many (word (k.Comma ∷ []) act.NextDeclarator then rule r.Declarator) then token k.Semicolon
     or rule r.Sassert
 table r.Enum =
-    token k.Enum then rule r.Attrs
-    then when test.EnumeratorsAhead (maybe (word (k.Name ∷ k.TypedefName ∷ []) act.TypeSpecifier) then maybe (token k.Colon then rule r.Squals) then token k.OpenBrace then rule r.Enumr then loop test.EnumeratorAhead (token k.Comma then rule r.Enumr) then maybe (token k.Comma) then word (k.CloseBrace ∷ []) act.TypeSpecifier) (word (k.Name ∷ k.TypedefName ∷ []) act.TypeSpecifier then maybe (token k.Colon then rule r.Squals))
+    word (k.Enum ∷ []) act.OpenSpecifier then rule r.Attrs
+    then when test.EnumeratorsAhead (maybe (word (k.Name ∷ k.TypedefName ∷ []) act.TypeSpecifier) then maybe (word (k.Colon ∷ []) act.AwaitBraces then rule r.Squals) then word (k.OpenBrace ∷ []) act.Enclose then rule r.Enumr then loop test.EnumeratorAhead (token k.Comma then rule r.Enumr) then maybe (token k.Comma) then word (k.CloseBrace ∷ []) act.TypeSpecifier) (word (k.Name ∷ k.TypedefName ∷ []) act.TypeSpecifier then maybe (token k.Colon then rule r.Squals))
 table r.Enumr = token k.Name then rule r.Attrs then maybe (token k.Equals then rule r.Cond)
 table r.Declarator =
     many (word (k.Star ∷ []) act.Pointer then rule r.Attrs then many (rule r.Qual)) then rule r.Direct
@@ -132,7 +132,7 @@ table r.Declared = rule r.Declarator
 table r.ParamSpecs = rule r.Specs
 table r.Body = rule r.Block
 table r.Typeof =
-    word (k.Typeof ∷ k.TypeofUnqual ∷ []) act.Pass then token k.OpenParenthesis
+    word (k.Typeof ∷ k.TypeofUnqual ∷ []) act.OpenSpecifier then word (k.OpenParenthesis ∷ []) act.Enclose
     then (rule r.Expr or rule r.Typename) then word (k.CloseParenthesis ∷ []) act.TypeSpecifier
 table r.If =
     token k.If then word (k.OpenParenthesis ∷ []) act.OpenScope then maybe (rule r.Declaration)

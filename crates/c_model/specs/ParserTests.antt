@@ -8,12 +8,12 @@ use Rattle.c_model.specs.declared.grammar.Terminal.{Terminal}
 use Rattle.c_model.specs.declared.grammar.Before.{Before}
 use Rattle.c_model.specs.declared.grammar.Before.TheVariants.{AtStart, BehindStar, BehindQualifier, Inside}
 use Rattle.c_model.specs.declared.grammar.Within.{Within}
-use Rattle.c_model.specs.declared.grammar.Within.TheVariants.{Between, BehindHead, BehindTag, BehindTypeof, Attribute, Group}
+use Rattle.c_model.specs.declared.grammar.Within.TheVariants.{Between, BehindColon, BehindHead, BehindTag, BehindTypeof, Attribute, Group}
 use Rattle.c_model.specs.Terminals as k
 use Rattle.c_model.specs.GrammarForm.{mem}
 use Rattle.c_model.specs.NameScopes.{Scopes, kind, fresh, is_opening, is_closing, is_type}
 use Rattle.c_model.specs.Derivation.{Language}
-use Rattle.c_model.specs.SyntaxTree.{c_language, has_parameters, sees_else}
+use Rattle.c_model.specs.SyntaxTree.{c_language, has_parameters, sees_else, sees_type}
 use Rattle.c_model.specs.ParserTable.{table}
 use Rattle.c_model.specs.ParserSets.{firsts}
 
@@ -138,7 +138,7 @@ sees_cast s ts = sees_type_name s ts && not (sees k.OpenBrace (past_brackets 0 t
 
 -- the brackets that are open
 abbrev pub within : Within → ℕ
-within (Attribute n) = n
+within (Attribute is_struct n) = n
 within (Group n) = n
 within _ = 0
 
@@ -151,58 +151,72 @@ is_type_word kind = mem kind type_words
 -- behind a word of a specifier
 abbrev pub behind_word : Bool → ℕ → Within
 behind_word typed kind =
-    if kind == k.Struct || kind == k.Enum then BehindHead
+    if kind == k.Struct then BehindHead true
+    else if kind == k.Enum then BehindHead false
     else if kind == k.Typeof || kind == k.TypeofUnqual then BehindTypeof
     else Between (typed || is_type_word kind)
 
--- behind a word that begins a specifier, or `:`, or the end of the specifiers
-abbrev pub behind_specifier : Bool → ℕ → Option Within
-behind_specifier typed kind = if kind == k.Colon then Some (Between false) else if mem kind (firsts r.Specs) then Some (behind_word typed kind) else None
+-- behind `:`, `{` or a word that begins such a nonterminal, or the end of the specifiers
+abbrev pub behind_specifier : Rule → Bool → ℕ → Option Within
+behind_specifier rule typed kind =
+    if kind == k.Colon then Some BehindColon
+    else if kind == k.OpenBrace then Some (Group 1)
+    else if mem kind (firsts rule) then Some (behind_word typed kind)
+    else None
 
--- behind the braces or the type of a struct or an enumeration
-abbrev pub behind_braces : ℕ → Option Within → Option Within
-behind_braces kind others = if kind == k.OpenBrace then Some (Group 1) else others
+-- behind a tag
+abbrev pub behind_tag : Bool → Within
+behind_tag is_struct = if is_struct then BehindTag else Between true
 
 -- behind what follows `struct` or `enum`
-abbrev pub head_step : ℕ → Option Within
-head_step kind = if kind == k.Name then Some BehindTag else if kind == k.OpenBracket then Some (Attribute 1) else behind_braces kind (behind_specifier true kind)
+abbrev pub head_step : Rule → Bool → ℕ → Option Within
+head_step rule is_struct kind =
+    if kind == k.Name then Some (behind_tag is_struct)
+    else if kind == k.OpenBracket then Some (Attribute is_struct 1)
+    else behind_specifier rule true kind
 
--- between two specifiers: an identifier that is no typedef name, or stands behind a type specifier, ends them, and so
--- does `{` where no enumeration with a type can take it
-abbrev pub between_step : Bool → Bool → Scopes → Terminal → Option Within
-between_step fixed typed s t =
-    if t.kind == k.Name then (if typed || not (is_type s.entries t.name) then None else Some (Between true))
-    else if fixed && t.kind == k.OpenBrace then Some (Group 1)
-    else behind_specifier typed t.kind
+-- an identifier that is no typedef name, or stands behind a type specifier, ends the specifiers
+abbrev pub name_step : Bool → Scopes → Terminal → Option Within
+name_step typed s t = if typed || not (is_type s.entries t.name) then None else Some (Between true)
 
-abbrev pub brackets : Bool → ℕ → Within
-brackets is_attribute n = if is_attribute then Attribute n else Group n
+abbrev pub between_step : Rule → Bool → Scopes → Terminal → Option Within
+between_step rule typed s t = if t.kind == k.Name then name_step typed s t else behind_specifier rule typed t.kind
 
--- in brackets
-abbrev pub bracket_step : Bool → ℕ → ℕ → Within
-bracket_step is_attribute n kind =
-    if is_opening kind then brackets is_attribute (n + 1)
-    else if not (is_closing kind) then brackets is_attribute n
-    else if n == 1 then (if is_attribute then BehindHead else Between true)
-    else brackets is_attribute (n - 1)
+-- a word that is no type specifier or qualifier ends the list behind `:`, and the enumeration is a type specifier
+abbrev pub colon_step : Rule → Scopes → Terminal → Option Within
+colon_step rule s t =
+    if is_qualifier t.kind then Some BehindColon
+    else if t.kind == k.Name then name_step false s t
+    else behind_specifier rule true t.kind
 
--- where what is behind a token among the specifiers of a declaration stands, unless they have ended before it
-unfoldable pub specifier_step : Bool → Within → Scopes → Terminal → Option Within
-specifier_step fixed (Between typed) s t = between_step fixed typed s t
-specifier_step fixed BehindHead s t = head_step t.kind
-specifier_step fixed BehindTag s t = if t.kind == k.Name then None else behind_braces t.kind (behind_specifier true t.kind)
-specifier_step fixed BehindTypeof s t = if t.kind == k.OpenParenthesis then Some (Group 1) else None
-specifier_step fixed (Attribute n) s t = Some (bracket_step true n t.kind)
-specifier_step fixed (Group n) s t = Some (bracket_step false n t.kind)
+-- how many brackets are open behind a token
+abbrev pub depth_behind : ℕ → ℕ → ℕ
+depth_behind n kind = if is_opening kind then n + 1 else if is_closing kind then n - 1 else n
 
--- the `:` before the type of an enumeration
-abbrev pub is_type_colon : Within → ℕ → Bool
-is_type_colon place kind = within place == 0 && kind == k.Colon
+abbrev pub in_attribute : Bool → ℕ → Within
+in_attribute is_struct n = if n == 0 then BehindHead is_struct else Attribute is_struct n
 
--- what is behind the specifiers; whether one of them is an enumeration with a type
-unfoldable pub past_specifiers : Bool → Within → Scopes → List Terminal → List Terminal
-past_specifiers fixed place s [] = []
-past_specifiers fixed place s (t ∷ ts) = goes_on (specifier_step fixed place s t) (λ next. past_specifiers (fixed || is_type_colon place t.kind) next s ts) (t ∷ ts)
+abbrev pub in_group : ℕ → Within
+in_group n = if n == 0 then Between true else Group n
+
+-- behind `typeof`
+abbrev pub typeof_step : ℕ → Option Within
+typeof_step kind = if kind == k.OpenParenthesis then Some (Group 1) else None
+
+-- where what is behind a token among the specifiers of such a nonterminal stands, unless they have ended before it
+unfoldable pub specifier_step : Rule → Within → Scopes → Terminal → Option Within
+specifier_step rule (Between typed) s t = between_step rule typed s t
+specifier_step rule BehindColon s t = colon_step rule s t
+specifier_step rule (BehindHead is_struct) s t = head_step rule is_struct t.kind
+specifier_step rule BehindTag s t = between_step rule true s t
+specifier_step rule BehindTypeof s t = typeof_step t.kind
+specifier_step rule (Attribute is_struct n) s t = Some (in_attribute is_struct (depth_behind n t.kind))
+specifier_step rule (Group n) s t = Some (in_group (depth_behind n t.kind))
+
+-- what is behind the specifiers
+unfoldable pub past_specifiers : Within → Scopes → List Terminal → List Terminal
+past_specifiers place s [] = []
+past_specifiers place s (t ∷ ts) = goes_on (specifier_step r.Specs place s t) (λ next. past_specifiers next s ts) (t ∷ ts)
 
 -- a token of a declarator, outside brackets
 abbrev pub is_in_declarator : ℕ → Bool
@@ -219,24 +233,54 @@ past_declarator n (t ∷ ts) = if ends_declarator n t.kind then t ∷ ts else if
 
 -- behind attributes, specifiers and a declarator stands `{`
 abbrev pub sees_function : Scopes → List Terminal → Bool
-sees_function s ts = specifies s ts && sees k.OpenBrace (past_declarator 0 (past_specifiers false (Between s.reading.typed) s (past_attributes 0 ts)))
+sees_function s ts = specifies s ts && sees k.OpenBrace (past_declarator 0 (past_specifiers (Between s.reading.typed) s (past_attributes 0 ts)))
 
--- behind the tag of an enumeration
-abbrev pub sees_enumerators : Scopes → List Terminal → Bool
-sees_enumerators s (t ∷ ts) = t.kind == k.OpenBrace || t.kind == k.Colon && sees k.OpenBrace (past_specifiers false (Between false) s ts)
-sees_enumerators s [] = false
+-- braces there are those of an enumeration, whose type stands before them; behind the tag of a structure those alone in
+-- which an enumerator comes next, which no members begin with
+abbrev pub are_enumerators : Within → Bool → Bool
+are_enumerators (Between typed) named = true
+are_enumerators BehindColon named = true
+are_enumerators BehindTag named = named
+are_enumerators _ named = false
+
+abbrev pub opens_enumerators : Within → Scopes → Terminal → List Terminal → Bool
+opens_enumerators place s t ts = t.kind == k.OpenBrace && are_enumerators place (sees_name s ts)
+
+-- the `:` of an enumeration without a tag, which has braces
+abbrev pub awaits_braces : Within → Terminal → Bool
+awaits_braces (BehindHead is_struct) t = t.kind == k.Colon
+awaits_braces _ t = false
+
+-- how many enumerations wait for their braces behind a token
+abbrev pub waiting_behind : ℕ → Bool → Bool → ℕ
+waiting_behind waiting takes awaits = if takes then waiting - 1 else if awaits then waiting + 1 else waiting
+
+-- in the list of type specifiers and qualifiers that goes on here, braces come that no enumeration takes: neither one of
+-- those that wait for theirs, nor one without a tag
+unfoldable pub lacks_enumeration : ℕ → Within → Scopes → List Terminal → Bool
+lacks_enumeration waiting place s [] = false
+lacks_enumeration waiting place s (t ∷ ts) = if waiting == 0 && opens_enumerators place s t ts then true else goes_on (specifier_step r.Squals place s t) (λ next. lacks_enumeration (waiting_behind waiting (opens_enumerators place s t ts) (awaits_braces place t)) next s ts) false
+
+-- behind the tag of an enumeration: braces come that no other takes
+abbrev pub takes_braces : Scopes → List Terminal → Bool
+takes_braces s ts = (sees k.OpenBrace ts || sees k.Colon ts) && lacks_enumeration s.reading.waiting (Between true) s ts
 
 abbrev pub has_enumerators : Scopes → List Terminal → Bool
-has_enumerators s (t ∷ ts) = not (t.kind == k.Name) || sees_enumerators s ts
+has_enumerators s (t ∷ ts) = not (t.kind == k.Name) || takes_braces s ts
 has_enumerators s [] = true
+
+-- braces that are no enumeration's that waits for its own
+abbrev pub sees_members : Scopes → List Terminal → Bool
+sees_members s (t ∷ ts) = t.kind == k.OpenBrace && (s.reading.waiting == 0 || not (sees_name s ts))
+sees_members s [] = false
 
 abbrev pub passes : Test → Scopes → List Terminal → Bool
 passes test.HasParameters s ts = has_parameters s.reading.held
 passes test.FunctionAhead s ts = sees_function s ts
 passes test.SpecifiersAhead s ts = not (sees_assertion ts || sees_attributes_alone ts)
 passes test.AttributeAhead s ts = sees_attribute ts
-passes test.TypeAhead s ts = may_come r.Squals s ts
-passes test.BraceAhead s ts = sees k.OpenBrace ts
+passes test.TypeAhead s ts = sees_type s ts
+passes test.BraceAhead s ts = sees_members s ts
 passes test.EnumeratorsAhead s ts = has_enumerators s ts
 passes test.EnumeratorAhead s ts = sees_enumerator s ts
 passes test.ParameterAhead s ts = sees_comma_without k.Ellipsis ts

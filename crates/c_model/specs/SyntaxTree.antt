@@ -9,7 +9,8 @@ use Rattle.c_model.specs.declared.grammar.Tree.TheVariants as tree
 use Rattle.c_model.specs.Terminals as k
 use Rattle.c_model.specs.NameScopes.{Scopes, kind, after, close}
 use Rattle.c_model.specs.Derivation.{Language}
-use Rattle.c_model.specs.Grammar.{grammar, is_part}
+use Rattle.c_model.specs.GrammarForm.{mem}
+use Rattle.c_model.specs.Grammar.{grammar, is_part, type_kinds}
 
 -- a function's parameters stand next to the name that is declared, or to the missing name of a type name
 abbrev pub has_parameters : Option (List Entry) → Bool
@@ -21,10 +22,16 @@ abbrev pub sees_else : List Terminal → Bool
 sees_else [] = false
 sees_else (t ∷ ts) = t.kind == k.Else
 
+-- a type specifier or a qualifier comes next
+abbrev pub sees_type : Scopes → List Terminal → Bool
+sees_type s [] = false
+sees_type s (t ∷ ts) = mem (kind s t) type_kinds
+
 -- the tests of the grammar
 abbrev pub asks : Test → Scopes → List Terminal → Bool
 asks test.HasParameters s ts = has_parameters s.reading.held
 asks test.ElseAhead s ts = sees_else ts
+asks test.TypeAhead s ts = sees_type s ts
 asks _ s ts = false
 
 -- the language of translation units (ISO/IEC 9899:2024, 6.9)

@@ -15,6 +15,11 @@ open_choice test.HasParameters f g = when test.HasParameters f g
 open_choice test.ElseAhead f g = when test.ElseAhead f g
 open_choice _ f g = either f g
 
+-- what a test repeated
+unfoldable pub open_loop : Test → Form → Form
+open_loop test.TypeAhead f = loop test.TypeAhead f
+open_loop _ f = many f
+
 unfoldable pub untested : Form → Form
 untested (word ks a) = word ks a
 untested (rule r) = rule r
@@ -24,4 +29,4 @@ untested (f or g) = untested f or untested g
 untested (maybe f) = maybe (untested f)
 untested (many f) = many (untested f)
 untested (when p f g) = open_choice p (untested f) (untested g)
-untested (loop p f) = many (untested f)
+untested (loop p f) = open_loop p (untested f)

@@ -45,6 +45,8 @@ pub struct Reading {
     pub pointer: bool,
     /// The parameters in the list that stands next to the name.
     pub held: Option<Items<Entry>>,
+    /// The enumerations in whose type list it stands, and whose braces are still to come.
+    pub waiting: u32,
 }
 
 /// What is as before at the end of a scope or of a part of a declarator: the number of names that are declared, and the
@@ -139,6 +141,12 @@ pub enum Act {
     Typedef,
     /// The last token of a type specifier.
     TypeSpecifier,
+    /// The word `struct`, `enum`, `typeof` or `typeof_unqual`.
+    OpenSpecifier,
+    /// The bracket before members, enumerators or the operand of `typeof`.
+    Enclose,
+    /// The `:` before the type of an enumeration whose braces are still to come.
+    AwaitBraces,
     /// The `*` of a declarator.
     Pointer,
     /// The `(` round a declarator.
@@ -186,9 +194,9 @@ pub enum Test {
     AttributeAhead,
     /// A type specifier or a qualifier comes next.
     TypeAhead,
-    /// `{` comes next.
+    /// `{` comes next, and not that of an enumeration whose braces are still to come.
     BraceAhead,
-    /// Of an enumeration, behind its tag and its type, enumerators in braces come, or it has no tag.
+    /// Of an enumeration: it has no tag, or braces come that no other enumeration takes.
     EnumeratorsAhead,
     /// `,` and a name come next.
     EnumeratorAhead,
@@ -232,14 +240,16 @@ pub enum Before {
 pub enum Within {
     /// Between two specifiers; a type specifier stands before, or none.
     Between(bool),
-    /// Behind `struct` or `enum`.
-    BehindHead,
-    /// Behind a tag.
+    /// Behind the `:` of an enumeration, with at most qualifiers between.
+    BehindColon,
+    /// Behind `struct`, or behind `enum`, and their attributes.
+    BehindHead(bool),
+    /// Behind the tag of a structure.
     BehindTag,
     /// Behind `typeof` or `typeof_unqual`.
     BehindTypeof,
-    /// In an attribute of which so many brackets are open.
-    Attribute(usize),
+    /// In an attribute behind `struct`, or behind `enum`, of which so many brackets are open.
+    Attribute(bool, usize),
     /// In brackets of which so many are open.
     Group(usize),
 }

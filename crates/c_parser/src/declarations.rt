@@ -282,7 +282,7 @@ pub const SQUALS: &Form = &Form::Then(
 );
 
 pub const STRUCT: &Form = &Form::Then(
-    &Form::Word(&[kinds::STRUCT], Act::Pass),
+    &Form::Word(&[kinds::STRUCT], Act::OpenSpecifier),
     &Form::Then(
         &Form::Rule(Rule::Attrs),
         &Form::Or(
@@ -296,7 +296,7 @@ pub const STRUCT: &Form = &Form::Then(
 );
 
 pub const MEMBERS: &Form = &Form::Then(
-    &Form::Word(&[kinds::OPEN_BRACE], Act::Pass),
+    &Form::Word(&[kinds::OPEN_BRACE], Act::Enclose),
     &Form::Then(
         &Form::Rule(Rule::Member),
         &Form::Then(
@@ -327,7 +327,7 @@ pub const MEMBER: &Form = &Form::Or(
 );
 
 pub const ENUM: &Form = &Form::Then(
-    &Form::Word(&[kinds::ENUM], Act::Pass),
+    &Form::Word(&[kinds::ENUM], Act::OpenSpecifier),
     &Form::Then(
         &Form::Rule(Rule::Attrs),
         &Form::When(
@@ -336,11 +336,11 @@ pub const ENUM: &Form = &Form::Then(
                 &Form::Maybe(&Form::Word(&[kinds::NAME, kinds::TYPEDEF_NAME], Act::TypeSpecifier)),
                 &Form::Then(
                     &Form::Maybe(&Form::Then(
-                        &Form::Word(&[kinds::COLON], Act::Pass),
+                        &Form::Word(&[kinds::COLON], Act::AwaitBraces),
                         &Form::Rule(Rule::Squals),
                     )),
                     &Form::Then(
-                        &Form::Word(&[kinds::OPEN_BRACE], Act::Pass),
+                        &Form::Word(&[kinds::OPEN_BRACE], Act::Enclose),
                         &Form::Then(
                             &Form::Rule(Rule::Enumr),
                             &Form::Then(
@@ -571,9 +571,9 @@ pub const DECLARED: &Form = &Form::Rule(Rule::Declarator);
 pub const PARAM_SPECS: &Form = &Form::Rule(Rule::Specs);
 
 pub const TYPEOF: &Form = &Form::Then(
-    &Form::Word(&[kinds::TYPEOF, kinds::TYPEOF_UNQUAL], Act::Pass),
+    &Form::Word(&[kinds::TYPEOF, kinds::TYPEOF_UNQUAL], Act::OpenSpecifier),
     &Form::Then(
-        &Form::Word(&[kinds::OPEN_PARENTHESIS], Act::Pass),
+        &Form::Word(&[kinds::OPEN_PARENTHESIS], Act::Enclose),
         &Form::Then(
             &Form::Or(&Form::Rule(Rule::Expr), &Form::Rule(Rule::Typename)),
             &Form::Word(&[kinds::CLOSE_PARENTHESIS], Act::TypeSpecifier),

@@ -2,6 +2,7 @@
 
 ghost use Rattle.std.specs.Prelude.{◌≡◌, ◌∷◌, [], true, false, ◌+◌, ◌<◌, ◌≤◌, ◌^◌, ◌&&◌, ◌||◌, not, IfSome, MatchOption};
 ghost use Rattle.c_model.specs.ParserTests as spec;
+ghost use Rattle.c_model.specs.SyntaxTree as tree;
 ghost use Rattle.c_model.specs.declared.grammar.Before.TheVariants as before;
 ghost use Rattle.c_model.specs.declared.grammar.Within.TheVariants as within;
 
@@ -50,6 +51,14 @@ fn may_come(rule: Rule, names: &Names, tokens: &[Terminal]) -> bool
         [first, ..] => may_begin(rule, names.kind(*first)),
         [] => false,
     }
+}
+
+/// Whether a type specifier or a qualifier comes next.
+#[tactic(auto, unfolding(c_model::specs::ParserSets::firsts))]
+fn sees_type(names: &Names, tokens: &[Terminal]) -> bool
+    ensures { result ≡ tree.sees_type names.now tokens.now }
+{
+    may_come(Rule::Squals, names, tokens)
 }
 
 /// What is behind the bracket that closes the first.
@@ -287,34 +296,40 @@ fn sees_cast(names: &Names, tokens: &[Terminal]) -> bool
     sees_type_name(names, tokens) && !sees(kinds::OPEN_BRACE, past_brackets(tokens))
 }
 
-/// What is behind a token inside brackets, which the place `behind` follows.
-fn in_brackets(is_attribute: bool, depth: usize, kind: u8) -> Within
+/// How many brackets are open behind a token.
+fn depth_behind(depth: usize, kind: u8) -> usize
     requires { depth < 2 ^ 63 }
-    ensures place { result ≡ spec.bracket_step is_attribute depth kind }
-    ensures grown { spec.within result ≤ depth + 1 }
+    ensures depth { result ≡ spec.depth_behind depth kind }
+    ensures grown { result ≤ depth + 1 }
 {
     if is_opening(kind) {
-        brackets(is_attribute, depth + 1)
-    } else if !is_closing(kind) {
-        brackets(is_attribute, depth)
-    } else if depth == 1 {
-        if is_attribute {
-            Within::BehindHead
-        } else {
-            Within::Between(true)
-        }
+        depth + 1
+    } else if is_closing(kind) {
+        depth.saturating_sub(1)
     } else {
-        brackets(is_attribute, depth.saturating_sub(1))
+        depth
     }
 }
 
-/// The place inside brackets of which so many are open.
-fn brackets(is_attribute: bool, depth: usize) -> Within
-    ensures place { result ≡ spec.brackets is_attribute depth }
+/// The place in an attribute behind `struct` or `enum`.
+fn in_attribute(is_struct: bool, depth: usize) -> Within
+    ensures place { result ≡ spec.in_attribute is_struct depth }
     ensures same { spec.within result ≡ depth }
 {
-    if is_attribute {
-        Within::Attribute(depth)
+    if depth == 0 {
+        Within::BehindHead(is_struct)
+    } else {
+        Within::Attribute(is_struct, depth)
+    }
+}
+
+/// The place in brackets.
+fn in_group(depth: usize) -> Within
+    ensures place { result ≡ spec.in_group depth }
+    ensures same { spec.within result ≡ depth }
+{
+    if depth == 0 {
+        Within::Between(true)
     } else {
         Within::Group(depth)
     }
@@ -344,8 +359,10 @@ fn behind_word(typed: bool, kind: u8) -> Within
     ensures place { result ≡ spec.behind_word typed kind }
     ensures none { spec.within result ≡ 0 }
 {
-    if kind == kinds::STRUCT || kind == kinds::ENUM {
-        Within::BehindHead
+    if kind == kinds::STRUCT {
+        Within::BehindHead(true)
+    } else if kind == kinds::ENUM {
+        Within::BehindHead(false)
     } else if kind == kinds::TYPEOF || kind == kinds::TYPEOF_UNQUAL {
         Within::BehindTypeof
     } else {
@@ -353,119 +370,130 @@ fn behind_word(typed: bool, kind: u8) -> Within
     }
 }
 
-/// What is behind a word that begins a specifier, or `:`.
-fn behind_specifier(typed: bool, kind: u8) -> Option<Within>
-    ensures place { result ≡ spec.behind_specifier typed kind }
-    ensures none { IfSome result (λ next. spec.within next ≡ 0) }
+/// What is behind `:`, `{` or a word that begins such a nonterminal.
+fn behind_specifier(rule: Rule, typed: bool, kind: u8) -> Option<Within>
+    ensures place { result ≡ spec.behind_specifier rule typed kind }
+    ensures grown { IfSome result (λ next. spec.within next ≤ 1) }
 {
     if kind == kinds::COLON {
-        Some(Within::Between(false))
-    } else if may_begin(Rule::Specs, kind) {
+        Some(Within::BehindColon)
+    } else if kind == kinds::OPEN_BRACE {
+        Some(Within::Group(1))
+    } else if may_begin(rule, kind) {
         Some(behind_word(typed, kind))
     } else {
         None
     }
 }
 
-/// What is behind a token that follows a tag, or stands in its place.
-fn behind_braces(kind: u8) -> Option<Within>
-    ensures place { result ≡ spec.behind_braces kind (spec.behind_specifier true kind) }
-    ensures grown { IfSome result (λ next. spec.within next ≤ 1) }
+/// What is behind a tag.
+fn behind_tag(is_struct: bool) -> Within
+    ensures place { result ≡ spec.behind_tag is_struct }
+    ensures none { spec.within result ≡ 0 }
 {
-    if kind == kinds::OPEN_BRACE {
-        Some(Within::Group(1))
+    if is_struct {
+        Within::BehindTag
     } else {
-        behind_specifier(true, kind)
+        Within::Between(true)
     }
 }
 
 /// What is behind a token that follows `struct` or `enum`.
-fn behind_head(kind: u8) -> Option<Within>
-    ensures place { result ≡ spec.head_step kind }
+fn head_step(rule: Rule, is_struct: bool, kind: u8) -> Option<Within>
+    ensures place { result ≡ spec.head_step rule is_struct kind }
     ensures grown { IfSome result (λ next. spec.within next ≤ 1) }
 {
     if kind == kinds::NAME {
-        Some(Within::BehindTag)
+        Some(behind_tag(is_struct))
     } else if kind == kinds::OPEN_BRACKET {
-        Some(Within::Attribute(1))
+        Some(Within::Attribute(is_struct, 1))
     } else {
-        behind_braces(kind)
+        behind_specifier(rule, true, kind)
     }
 }
 
-/// What is behind a token between two specifiers.
-fn between_step(fixed: bool, typed: bool, names: &Names, token: Terminal) -> Option<Within>
-    ensures place { result ≡ spec.between_step fixed typed names.now token }
+/// What is behind an identifier among specifiers.
+fn name_step(typed: bool, names: &Names, token: Terminal) -> Option<Within>
+    ensures place { result ≡ spec.name_step typed names.now token }
     ensures grown { IfSome result (λ next. spec.within next ≤ 1) }
 {
-    if token.kind != kinds::NAME {
-        if fixed && token.kind == kinds::OPEN_BRACE {
-            Some(Within::Group(1))
-        } else {
-            behind_specifier(typed, token.kind)
-        }
-    } else if typed || !names.names_type(token.name) {
+    if typed || !names.names_type(token.name) {
         None
     } else {
         Some(Within::Between(true))
     }
 }
 
-/// Where what is behind a token among the specifiers of a declaration stands.
-#[tactic(auto, unfolding(c_model::specs::ParserTests::specifier_step))]
-fn specifier_step(fixed: bool, place: Within, names: &Names, token: Terminal) -> Option<Within>
-    requires { spec.within place < 2 ^ 63 }
-    ensures place { result ≡ spec.specifier_step fixed place names.now token }
-    ensures grown { IfSome result (λ next. spec.within next ≤ spec.within place + 1) }
+/// What is behind a token between two specifiers.
+fn between_step(rule: Rule, typed: bool, names: &Names, token: Terminal) -> Option<Within>
+    ensures place { result ≡ spec.between_step rule typed names.now token }
+    ensures grown { IfSome result (λ next. spec.within next ≤ 1) }
 {
-    match place {
-        Within::Between(typed) => between_step(fixed, typed, names, token),
-        Within::BehindHead => behind_head(token.kind),
-        Within::BehindTag => {
-            if token.kind == kinds::NAME {
-                None
-            } else {
-                behind_braces(token.kind)
-            }
-        }
-        Within::BehindTypeof => {
-            if token.kind == kinds::OPEN_PARENTHESIS {
-                Some(Within::Group(1))
-            } else {
-                None
-            }
-        }
-        Within::Attribute(depth) => Some(in_brackets(true, depth, token.kind)),
-        Within::Group(depth) => Some(in_brackets(false, depth, token.kind)),
+    if token.kind == kinds::NAME {
+        name_step(typed, names, token)
+    } else {
+        behind_specifier(rule, typed, token.kind)
     }
 }
 
-/// Whether the token is the `:` before the type of an enumeration, or one stood before.
-fn is_fixed(fixed: bool, place: Within, kind: u8) -> bool
-    ensures { result ≡ (fixed || spec.is_type_colon place kind) }
+/// What is behind a token in the type list of an enumeration, before its type specifiers.
+fn colon_step(rule: Rule, names: &Names, token: Terminal) -> Option<Within>
+    ensures place { result ≡ spec.colon_step rule names.now token }
+    ensures grown { IfSome result (λ next. spec.within next ≤ 1) }
 {
-    let outside = match place {
-        Within::Attribute(depth) | Within::Group(depth) => depth == 0,
-        Within::Between(_) | Within::BehindHead | Within::BehindTag | Within::BehindTypeof => true,
-    };
-    fixed || outside && kind == kinds::COLON
+    if may_begin(Rule::Qual, token.kind) {
+        Some(Within::BehindColon)
+    } else if token.kind == kinds::NAME {
+        name_step(false, names, token)
+    } else {
+        behind_specifier(rule, true, token.kind)
+    }
+}
+
+/// What is behind a token that follows `typeof`.
+fn typeof_step(kind: u8) -> Option<Within>
+    ensures place { result ≡ spec.typeof_step kind }
+    ensures grown { IfSome result (λ next. spec.within next ≤ 1) }
+{
+    if kind == kinds::OPEN_PARENTHESIS {
+        Some(Within::Group(1))
+    } else {
+        None
+    }
+}
+
+/// Where what is behind a token among the specifiers of such a nonterminal stands.
+#[tactic(auto, unfolding(c_model::specs::ParserTests::specifier_step))]
+fn specifier_step(rule: Rule, place: Within, names: &Names, token: Terminal) -> Option<Within>
+    requires { spec.within place < 2 ^ 63 }
+    ensures place { result ≡ spec.specifier_step rule place names.now token }
+    ensures grown { IfSome result (λ next. spec.within next ≤ spec.within place + 1) }
+{
+    match place {
+        Within::Between(typed) => between_step(rule, typed, names, token),
+        Within::BehindColon => colon_step(rule, names, token),
+        Within::BehindHead(is_struct) => head_step(rule, is_struct, token.kind),
+        Within::BehindTag => between_step(rule, true, names, token),
+        Within::BehindTypeof => typeof_step(token.kind),
+        Within::Attribute(is_struct, depth) => {
+            Some(in_attribute(is_struct, depth_behind(depth, token.kind)))
+        }
+        Within::Group(depth) => Some(in_group(depth_behind(depth, token.kind))),
+    }
 }
 
 /// What is behind the specifiers, where a type specifier may stand before them.
 #[tactic(auto, unfolding(c_model::specs::ParserTests::past_specifiers))]
 fn past_specifiers<'a>(typed: bool, names: &Names, tokens: &'a [Terminal]) -> &'a [Terminal]
-    ensures { result.now ≡ spec.past_specifiers false (within.Between typed) names.now tokens.now }
+    ensures { result.now ≡ spec.past_specifiers (within.Between typed) names.now tokens.now }
 {
     let mut rest = tokens;
     let mut place = Within::Between(typed);
-    let mut fixed = false;
     while let Some((first, more)) = split(rest) {
-        let later = is_fixed(fixed, place, first.kind);
-        match specifier_step(fixed, place, names, first) {
+        match specifier_step(Rule::Specs, place, names, first) {
             Some(next) => place = next,
             None => return rest,
         }
-        fixed = later;
         rest = more;
     }
     rest
@@ -520,15 +548,96 @@ fn sees_function(names: &Names, tokens: &[Terminal]) -> bool
     sees(kinds::OPEN_BRACE, past_declarator(declarator))
 }
 
-/// Whether behind the tag of an enumeration, and behind its type, enumerators come.
-fn sees_enumerators(names: &Names, tokens: &[Terminal]) -> bool
-    ensures { result ≡ spec.sees_enumerators names.now tokens.now }
+/// Whether braces there are those of an enumeration whose type stands before them; a name may come next in them.
+fn are_enumerators(place: Within, named: bool) -> bool
+    ensures { result ≡ spec.are_enumerators place named }
+{
+    match place {
+        Within::Between(_) | Within::BehindColon => true,
+        Within::BehindTag => named,
+        Within::BehindHead(_)
+        | Within::BehindTypeof
+        | Within::Attribute(_, _)
+        | Within::Group(_) => false,
+    }
+}
+
+/// Whether the token is the `{` of an enumeration whose type stands before it.
+fn opens_enumerators(place: Within, names: &Names, first: Terminal, rest: &[Terminal]) -> bool
+    ensures { result ≡ spec.opens_enumerators place names.now first rest.now }
+{
+    first.kind == kinds::OPEN_BRACE && are_enumerators(place, sees_name(names, rest))
+}
+
+/// Whether the token is the `:` of an enumeration without a tag.
+fn awaits_braces(place: Within, token: Terminal) -> bool
+    ensures { result ≡ spec.awaits_braces place token }
+{
+    match place {
+        Within::BehindHead(_) => token.kind == kinds::COLON,
+        Within::Between(_)
+        | Within::BehindColon
+        | Within::BehindTag
+        | Within::BehindTypeof
+        | Within::Attribute(_, _)
+        | Within::Group(_) => false,
+    }
+}
+
+/// How many enumerations wait for their braces behind a token.
+fn waiting_behind(waiting: usize, takes: bool, awaits: bool) -> usize
+    requires { waiting < 2 ^ 63 + 2 ^ 32 }
+    ensures count { result ≡ spec.waiting_behind waiting takes awaits }
+    ensures grown { result ≤ waiting + 1 }
+{
+    if takes {
+        waiting.saturating_sub(1)
+    } else if awaits {
+        waiting + 1
+    } else {
+        waiting
+    }
+}
+
+/// Whether in the list that goes on behind a type specifier braces come that no enumeration takes.
+#[tactic(auto, unfolding(c_model::specs::ParserTests::lacks_enumeration))]
+fn lacks_enumeration(names: &Names, tokens: &[Terminal]) -> bool
+    ensures { result ≡ spec.lacks_enumeration names.now.reading.waiting (within.Between true) names.now tokens.now }
+{
+    let mut rest = tokens;
+    let mut place = Within::Between(true);
+    let mut waiting = names.waiting();
+    while let Some((first, more)) = split(rest) {
+        let takes = opens_enumerators(place, names, first, more);
+        if waiting == 0 && takes {
+            return true;
+        }
+        let later = waiting_behind(waiting, takes, awaits_braces(place, first));
+        match specifier_step(Rule::Squals, place, names, first) {
+            Some(next) => place = next,
+            None => return false,
+        }
+        waiting = later;
+        rest = more;
+    }
+    false
+}
+
+/// Whether behind the tag of an enumeration come braces that no other takes.
+fn takes_braces(names: &Names, tokens: &[Terminal]) -> bool
+    ensures { result ≡ spec.takes_braces names.now tokens.now }
+{
+    (sees(kinds::OPEN_BRACE, tokens) || sees(kinds::COLON, tokens))
+        && lacks_enumeration(names, tokens)
+}
+
+/// Whether braces come that are no enumeration's that waits for its own.
+fn sees_members(names: &Names, tokens: &[Terminal]) -> bool
+    ensures { result ≡ spec.sees_members names.now tokens.now }
 {
     match split(tokens) {
         Some((first, rest)) => {
-            first.kind == kinds::OPEN_BRACE
-                || first.kind == kinds::COLON
-                    && sees(kinds::OPEN_BRACE, past_specifiers(false, names, rest))
+            first.kind == kinds::OPEN_BRACE && (names.waiting() == 0 || !sees_name(names, rest))
         }
         None => false,
     }
@@ -539,7 +648,7 @@ fn has_enumerators(names: &Names, tokens: &[Terminal]) -> bool
     ensures { result ≡ spec.has_enumerators names.now tokens.now }
 {
     match split(tokens) {
-        Some((first, rest)) => first.kind != kinds::NAME || sees_enumerators(names, rest),
+        Some((first, rest)) => first.kind != kinds::NAME || takes_braces(names, rest),
         None => true,
     }
 }
@@ -553,8 +662,8 @@ pub fn passes(test: Test, names: &Names, tokens: &[Terminal]) -> bool
         Test::FunctionAhead => sees_function(names, tokens),
         Test::SpecifiersAhead => !(sees_assertion(tokens) || sees_attributes_alone(tokens)),
         Test::AttributeAhead => sees_attribute(tokens),
-        Test::TypeAhead => may_come(Rule::Squals, names, tokens),
-        Test::BraceAhead => sees(kinds::OPEN_BRACE, tokens),
+        Test::TypeAhead => sees_type(names, tokens),
+        Test::BraceAhead => sees_members(names, tokens),
         Test::EnumeratorsAhead => has_enumerators(names, tokens),
         Test::EnumeratorAhead => sees_enumerator(names, tokens),
         Test::ParameterAhead => sees_comma_without(kinds::ELLIPSIS, tokens),

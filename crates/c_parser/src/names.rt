@@ -1,6 +1,6 @@
 //! Which identifiers are typedef names: the scopes of the declarations that have been read.
 
-ghost use Rattle.std.specs.Prelude.{◌≡◌, true, None, OnOk};
+ghost use Rattle.std.specs.Prelude.{◌≡◌, ◌<◌, ◌^◌, true, None, OnOk};
 ghost use Rattle.c_model.specs.NameScopes as spec;
 ghost use Rattle.c_model.specs.declared.grammar.Act.TheVariants as act;
 ghost use Rattle.c_model.specs.declared.grammar.Rule.TheVariants as rule;
@@ -45,6 +45,23 @@ fn fresh() -> Reading
         near: false,
         pointer: false,
         held: None,
+        waiting: 0,
+    }
+}
+
+/// The type list of so many enumerations whose braces are still to come.
+fn waiting_for(waiting: u32) -> Reading
+    ensures { result ≡ record spec.fresh { waiting = waiting } }
+{
+    Reading {
+        is_typedef: false,
+        name: 0,
+        typed: false,
+        parameter: false,
+        near: false,
+        pointer: false,
+        held: None,
+        waiting,
     }
 }
 
@@ -112,6 +129,14 @@ impl Names {
         ensures { result ≡ self.now.reading.typed }
     {
         self.reading.typed
+    }
+
+    /// The enumerations that wait for their braces.
+    pub fn waiting(&self) -> usize
+        ensures waiting { result ≡ self.now.reading.waiting }
+        ensures bounded { result < 2 ^ 32 }
+    {
+        self.reading.waiting as usize
     }
 
     /// The parameters in the list that stands next to the name.
@@ -182,6 +207,7 @@ impl Names {
             near: false,
             pointer: false,
             held: None,
+            waiting: self.reading.waiting,
         };
     }
 
@@ -207,6 +233,23 @@ impl Names {
         self.reading.held = None;
     }
 
+    /// The word `struct`, `enum`, `typeof` or `typeof_unqual`.
+    fn open_specifier(&mut self) -> Result<(), AllocError>
+        ensures { OnOk result ((token : Terminal) → self.new ≡ spec.after act.OpenSpecifier self.old token) }
+    {
+        let waiting = self.reading.waiting;
+        self.enter(waiting_for(waiting))
+    }
+
+    /// The `:` before the type of an enumeration whose braces are still to come.
+    fn await_braces(&mut self) -> Result<(), AllocError>
+        ensures { OnOk result ((token : Terminal) → self.new ≡ spec.after act.AwaitBraces self.old token) }
+    {
+        let waiting = self.reading.waiting.checked_add(1).ok_or(AllocError)?;
+        self.reading = waiting_for(waiting);
+        Ok(())
+    }
+
     /// The `*` of a declarator.
     fn point(&mut self)
         ensures { (token : Terminal) → self.new ≡ spec.after act.Pointer self.old token }
@@ -229,6 +272,7 @@ impl Names {
             near: true,
             pointer: false,
             held: None,
+            waiting: 0,
         })
     }
 
@@ -294,6 +338,7 @@ impl Names {
             near: false,
             pointer: false,
             held: None,
+            waiting: 0,
         };
     }
 
@@ -324,6 +369,17 @@ impl Names {
         }
     }
 
+    /// The end of a structure, an enumeration or `typeof`.
+    fn leave_specifier(&mut self)
+        ensures { self.new ≡ spec.close rule.Struct self.old }
+    {
+        if let Some(frame) = self.frames.pop() {
+            self.entries.truncate(frame.count);
+            self.reading = frame.reading;
+            self.specify(self.reading.is_typedef, true);
+        }
+    }
+
     /// The scope of `if` or `for` ends.
     fn leave_scope(&mut self)
         ensures { self.new ≡ spec.close rule.If self.old }
@@ -344,6 +400,9 @@ impl Names {
             Act::Specifier => self.specify(self.reading.is_typedef, self.reading.typed),
             Act::Typedef => self.specify(true, self.reading.typed),
             Act::TypeSpecifier => self.specify(self.reading.is_typedef, true),
+            Act::OpenSpecifier => self.open_specifier()?,
+            Act::Enclose => self.reading = fresh(),
+            Act::AwaitBraces => self.await_braces()?,
             Act::Pointer => self.point(),
             Act::OpenDeclarator => self.open_declarator()?,
             Act::CloseDeclarator => self.close_declarator(),
@@ -377,6 +436,7 @@ impl Names {
             })?,
             Rule::ParamSpecs => self.reading.parameter = true,
             Rule::Body => self.reading.is_typedef = false,
+            Rule::Struct | Rule::Enum | Rule::Typeof => self.leave_specifier(),
             Rule::If | Rule::For => self.leave_scope(),
             _ => {}
         }

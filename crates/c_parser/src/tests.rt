@@ -4,6 +4,7 @@ mod declarations;
 mod expressions;
 mod limits;
 mod names;
+mod specifiers;
 mod statements;
 mod terminals;
 

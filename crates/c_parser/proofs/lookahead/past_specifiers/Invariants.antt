@@ -1,10 +1,10 @@
-use Rattle.std.specs.Prelude.{◌≡◌, ◌≤◌, ◌+◌, length, false}
+use Rattle.std.specs.Prelude.{◌≡◌, ◌≤◌, ◌+◌, length}
 use Rattle.c_model.specs.declared.grammar.Within.TheVariants.{Between}
 use Rattle.c_model.specs.ParserTests.{past_specifiers, within}
 use Rattle.c_parser.proofs.lookahead.past_specifiers.Given as goal
 
 abbrev pub invariant-loop-first : goal.invariant-loop-first
-invariant-loop-first l = (past_specifiers l.fixed l.place l.names l.rest ≡ past_specifiers false (Between l.typed) l.names l.tokens) × (within l.place + length l.rest ≤ length l.tokens)
+invariant-loop-first l = (past_specifiers l.place l.names l.rest ≡ past_specifiers (Between l.typed) l.names l.tokens) × (within l.place + length l.rest ≤ length l.tokens)
 
 abbrev pub decreases-loop-first : goal.decreases-loop-first
 decreases-loop-first l = length l.rest

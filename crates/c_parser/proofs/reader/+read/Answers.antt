@@ -1,5 +1,8 @@
-use Rattle.std.proofs.Common.{◌≡◌, ◌+◌, ◌*◌, sym, subst, ◌∙◌}
+use Rattle.std.proofs.Common.{true, false, ◌≡◌, ◌+◌, ◌*◌, sym, subst, ◌∙◌}
 use Rattle.std.proofs.lemmas.Result.{err_from_is_err_and}
+use Rattle.c_model.specs.ParserWalk.{goes_left}
+use Rattle.c_model.specs.ParserSets.{tables}
+use Rattle.c_model.specs.ParserTests.{parsed}
 use Rattle.c_parser.specs.View.{form}
 use Rattle.c_parser.specs.Weight.{weight}
 use Rattle.c_parser.specs.Reading.{IsDecided}
@@ -61,10 +64,10 @@ pub returns-in_ok-read-in-Then : goal.returns-in_ok-read-in-Then
 returns-in_ok-read-in-Then t c = rw c.in-Then.is (then_told _ _ _ _ _ _ _ _ _ _ c.in_ok-read-in-Then.ensures c.read-in-Then-2.ensures)
 
 pub returns-then-goes_left : goal.returns-then-goes_left
-returns-then-goes_left t c = rw c.in-Or.is (left_told _ _ _ _ _ _ _ _ (cc) c.read-then-goes_left.ensures)
+returns-then-goes_left t c = rw c.in-Or.is (left_told _ _ _ _ _ _ _ _ (subst (λ n. goes_left tables parsed (form c.in-Or.f.now) (form c.in-Or.g.now) n ≡ true) c.ahead-in-Or.ensures (sym c.goes_left.ensures ∙ c.if-goes_left.true)) c.read-then-goes_left.ensures)
 
 pub returns-else-goes_left : goal.returns-else-goes_left
-returns-else-goes_left t c = rw c.in-Or.is (right_told _ _ _ _ _ _ _ _ (cc) c.read-else-goes_left.ensures)
+returns-else-goes_left t c = rw c.in-Or.is (right_told _ _ _ _ _ _ _ _ (subst (λ n. goes_left tables parsed (form c.in-Or.f.now) (form c.in-Or.g.now) n ≡ false) c.ahead-in-Or.ensures (sym c.goes_left.ensures ∙ c.if-goes_left.false)) c.read-else-goes_left.ensures)
 
 pub returns-then-begins : goal.returns-then-begins
 returns-then-begins t c = rw c.in-Maybe.is (take_told _ _ _ _ _ _ _ (cc) c.read-then-begins.ensures)

@@ -25,3 +25,10 @@ returns-in_ok-open_block-in-OpenBlock c = rw c.in-OpenBlock.is (c.in_ok-open_blo
 
 pub returns-in-CloseBlock : goal.returns-in-CloseBlock
 returns-in-CloseBlock c = rw c.in-CloseBlock.is (c.close_block.ensures c.args.token)
+
+pub returns-in_ok-open_specifier-in-OpenSpecifier :
+    goal.returns-in_ok-open_specifier-in-OpenSpecifier
+returns-in_ok-open_specifier-in-OpenSpecifier c = rw c.in-OpenSpecifier.is (c.in_ok-open_specifier-in-OpenSpecifier.ensures c.args.token)
+
+pub returns-in_ok-await_braces-in-AwaitBraces : goal.returns-in_ok-await_braces-in-AwaitBraces
+returns-in_ok-await_braces-in-AwaitBraces c = rw c.in-AwaitBraces.is (c.in_ok-await_braces-in-AwaitBraces.ensures c.args.token)
