@@ -51,6 +51,9 @@ pub mod ScannedSpecifiers
 pub mod PastDeclarators
 pub mod RegainFunction
 pub mod RegainAttributes
+pub mod OpenSuffixes
+pub mod RegainSuffix
+pub mod RegainForms
 pub mod Loosen
 pub mod RegainUnit
 pub mod ChoiceOrder

@@ -14,6 +14,8 @@ use Rattle.c_model.specs.ParserTable.{table}
 use Rattle.c_model.specs.ParserSets.{tables}
 use Rattle.c_model.proofs.ClearBrackets.{clear}
 use Rattle.c_model.proofs.OpenFlows.{flows}
+use Rattle.c_model.proofs.OpenSuffixes.{suffixed}
+use Rattle.c_model.proofs.RegainForms.{or_first, or_second, when_first, when_second, maybe_part, many_turn, loop_turn}
 
 -- the tests that stay in a production
 unfoldable pub stays : Rule → Test → Bool
@@ -22,7 +24,6 @@ stays n test.ElseAhead = true
 stays n test.TypeAhead = true
 stays n test.BraceAhead = true
 stays n test.EnumeratorsAhead = true
-stays r.Suffix test.AttributeAhead = true
 stays n _ = false
 
 unfoldable pub opens_when : Bool → Test → Form → Form → Form
@@ -157,6 +158,31 @@ pub flows_loop : (b : Bool) (p : Test) (f : Form) (F : List ℕ) (c : Bool) → 
 unfolding flows opens_loop
 flows_loop true p f F c = refl
 flows_loop false p f F c = refl
+
+-- nor does a suffix end what it didn't
+suffixed_part : (f g : Form) (F : List ℕ) → IsEither f g → suffixed (either f g) F ≡ true → suffixed f F ≡ true
+suffixed_part f g F (IsEither.part q e) v = maybe_part f F (rw e at v)
+suffixed_part f g F (IsEither.choice e) v = or_first f g F (rw e at v)
+
+suffixed_rest : (f g : Form) (F : List ℕ) → IsEither f g → suffixed (either f g) F ≡ true → suffixed g F ≡ true
+unfolding suffixed
+suffixed_rest f g F (IsEither.part q e) v = rw q refl
+suffixed_rest f g F (IsEither.choice e) v = or_second f g F (rw e at v)
+
+pub suffixed_chosen : (b : Bool) (p : Test) (f g : Form) (F : List ℕ) → suffixed (opens_when b p f g) F ≡ true → suffixed f F ≡ true
+unfolding opens_when
+suffixed_chosen true p f g F v = when_first p f g F v
+suffixed_chosen false p f g F v = suffixed_part f g F (is_either f g) v
+
+pub suffixed_other : (b : Bool) (p : Test) (f g : Form) (F : List ℕ) → suffixed (opens_when b p f g) F ≡ true → suffixed g F ≡ true
+unfolding opens_when
+suffixed_other true p f g F v = when_second p f g F v
+suffixed_other false p f g F v = suffixed_rest f g F (is_either f g) v
+
+pub suffixed_turn : (b : Bool) (p : Test) (f : Form) (F : List ℕ) → suffixed (opens_loop b p f) F ≡ true → suffixed f (first tables f ++ F) ≡ true
+unfolding opens_loop
+suffixed_turn true p f F v = loop_turn p f F v
+suffixed_turn false p f F v = many_turn f F v
 
 first_when : (b : Bool) (p : Test) (f g : Form) → first tables (opens_when b p f g) ≡ first tables f ++ first tables g
 unfolding first opens_when

@@ -30,6 +30,7 @@ use Rattle.c_model.proofs.RegainBlock.{by_assertion, by_attributes, labelled}
 use Rattle.c_model.proofs.RegainCast.{by_what_follows, no_brace, unary_no_cast}
 use Rattle.c_model.proofs.RegainPrimary.{no_type}
 use Rattle.c_model.proofs.RegainFunction.{function_seen}
+use Rattle.c_model.proofs.OpenSuffixes.{is_suffix, ends_open}
 use Rattle.c_model.proofs.OpenForms.{opens, opens_when, opens_loop, stays}
 
 -- the scopes are those behind the specifiers of a parameter, where c says so
@@ -66,8 +67,8 @@ pub data IsTested : (Test → Bool) → Form → Bool → Bool → Type 0 where
   in_maybe : {k : Test → Bool} {f : Form} {b c : Bool} → IsTested k f b c → IsTested k (maybe f) b c
   in_many : {k : Test → Bool} {f : Form} {b c : Bool} → IsTested k f b false → IsTested k (many f) b c
   kept_when : {k : Test → Bool} {p : Test} {f g : Form} {b c : Bool} → k p ≡ true → IsTested k f b c → IsTested k g b c → IsTested k (when p f g) b c
-  open_when : {k : Test → Bool} {p : Test} {f g : Form} {b c : Bool} → IsTaken p (opens k f) b c → IsTested k f b c → IsTested k g b c → IsTested k (when p f g) b c
-  open_loop : {k : Test → Bool} {p : Test} {f : Form} {b c : Bool} → IsTaken p (opens k f) b false → IsTested k f b false → IsTested k (loop p f) b c
+  open_when : {k : Test → Bool} {p : Test} {f g : Form} {b c : Bool} → ends_open (opens k f) ≡ false → IsTaken p (opens k f) b c → IsTested k f b c → IsTested k g b c → IsTested k (when p f g) b c
+  open_loop : {k : Test → Bool} {p : Test} {f : Form} {b c : Bool} → ends_open (opens k f) ≡ false → IsTaken p (opens k f) b false → IsTested k f b false → IsTested k (loop p f) b c
 
 function_taken : (c : Bool) → IsTaken test.FunctionAhead (rule r.Function) true c
 unfolding table hollow
@@ -152,11 +153,11 @@ parenthesized_taken b c = record { holds = λ s new ts rest xs b p d. by d }
 
 -- of each production
 pub tested : (n : Rule) → IsTested (stays n) (table n) (not (is_balanced n)) false
-unfolding plain opens opens_when opens_loop stays table clear holds is_balanced gives_parameter within mem
+unfolding plain opens opens_when opens_loop stays table clear holds is_balanced gives_parameter within mem ends_open is_suffix
 tested r.Unit = IsTested.plainly refl
-tested r.External = IsTested.open_when (function_taken false) (IsTested.plainly refl) (IsTested.plainly refl)
+tested r.External = IsTested.open_when refl (function_taken false) (IsTested.plainly refl) (IsTested.plainly refl)
 tested r.Function = IsTested.plainly refl
-tested r.Declaration = IsTested.open_when (named_taken false) (IsTested.plainly refl) (IsTested.plainly refl)
+tested r.Declaration = IsTested.open_when refl (named_taken false) (IsTested.plainly refl) (IsTested.plainly refl)
 tested r.Sassert = IsTested.plainly refl
 tested r.Attrs = IsTested.plainly refl
 tested r.Attr = IsTested.plainly refl
@@ -169,22 +170,22 @@ tested r.Squals = IsTested.plainly refl
 tested r.Struct = IsTested.plainly refl
 tested r.Members = IsTested.plainly refl
 tested r.Member = IsTested.plainly refl
-tested r.Enum = IsTested.in_then (IsTested.plainly refl) (IsTested.in_then (IsTested.plainly refl) (IsTested.kept_when refl (IsTested.in_then (IsTested.plainly refl) (IsTested.in_then (IsTested.plainly refl) (IsTested.in_then (IsTested.plainly refl) (IsTested.in_then (IsTested.plainly refl) (IsTested.in_then (IsTested.open_loop (enumerators_taken _ false) (IsTested.plainly refl)) (IsTested.plainly refl)))))) (IsTested.plainly refl)))
+tested r.Enum = IsTested.in_then (IsTested.plainly refl) (IsTested.in_then (IsTested.plainly refl) (IsTested.kept_when refl (IsTested.in_then (IsTested.plainly refl) (IsTested.in_then (IsTested.plainly refl) (IsTested.in_then (IsTested.plainly refl) (IsTested.in_then (IsTested.plainly refl) (IsTested.in_then (IsTested.open_loop refl (enumerators_taken _ false) (IsTested.plainly refl)) (IsTested.plainly refl)))))) (IsTested.plainly refl)))
 tested r.Enumr = IsTested.plainly refl
 tested r.Declarator = IsTested.plainly refl
-tested r.Direct = IsTested.in_then (IsTested.in_or (IsTested.in_then (IsTested.plainly refl) (IsTested.open_loop (attributes_taken _ false) (IsTested.plainly refl))) (IsTested.plainly refl)) (IsTested.plainly refl)
-tested r.Suffix = IsTested.plainly refl
-tested r.Params = IsTested.in_then (IsTested.plainly refl) (IsTested.in_then (IsTested.open_loop (parameters_taken _ false) (IsTested.plainly refl)) (IsTested.plainly refl))
-tested r.Param = IsTested.in_then (IsTested.plainly refl) (IsTested.in_then (IsTested.plainly refl) (IsTested.in_maybe (IsTested.open_when declarator_taken (IsTested.plainly refl) (IsTested.plainly refl))))
+tested r.Direct = IsTested.in_then (IsTested.in_or (IsTested.in_then (IsTested.plainly refl) (IsTested.open_loop refl (attributes_taken _ false) (IsTested.plainly refl))) (IsTested.plainly refl)) (IsTested.plainly refl)
+tested r.Suffix = IsTested.in_or (IsTested.in_then (IsTested.plainly refl) (IsTested.in_then (IsTested.plainly refl) (IsTested.in_then (IsTested.plainly refl) (IsTested.open_loop refl (attributes_taken _ false) (IsTested.plainly refl))))) (IsTested.in_then (IsTested.plainly refl) (IsTested.in_then (IsTested.plainly refl) (IsTested.in_then (IsTested.plainly refl) (IsTested.open_loop refl (attributes_taken _ false) (IsTested.plainly refl)))))
+tested r.Params = IsTested.in_then (IsTested.plainly refl) (IsTested.in_then (IsTested.open_loop refl (parameters_taken _ false) (IsTested.plainly refl)) (IsTested.plainly refl))
+tested r.Param = IsTested.in_then (IsTested.plainly refl) (IsTested.in_then (IsTested.plainly refl) (IsTested.in_maybe (IsTested.open_when refl declarator_taken (IsTested.plainly refl) (IsTested.plainly refl))))
 tested r.Typename = IsTested.plainly refl
-tested r.Abstract = IsTested.in_or (IsTested.in_then (IsTested.plainly refl) (IsTested.in_then (IsTested.open_loop (attributes_taken _ false) (IsTested.plainly refl)) (IsTested.plainly refl))) (IsTested.plainly refl)
-tested r.Adirect = IsTested.in_then (IsTested.open_when (abstract_taken _ _) (IsTested.plainly refl) (IsTested.plainly refl)) (IsTested.plainly refl)
+tested r.Abstract = IsTested.in_or (IsTested.in_then (IsTested.plainly refl) (IsTested.in_then (IsTested.open_loop refl (attributes_taken _ false) (IsTested.plainly refl)) (IsTested.plainly refl))) (IsTested.plainly refl)
+tested r.Adirect = IsTested.in_then (IsTested.open_when refl (abstract_taken _ _) (IsTested.plainly refl) (IsTested.plainly refl)) (IsTested.plainly refl)
 tested r.Initdecl = IsTested.plainly refl
 tested r.Init = IsTested.plainly refl
-tested r.Braces = IsTested.in_then (IsTested.plainly refl) (IsTested.in_then (IsTested.in_maybe (IsTested.in_then (IsTested.plainly refl) (IsTested.in_then (IsTested.open_loop (items_taken _ false) (IsTested.plainly refl)) (IsTested.plainly refl)))) (IsTested.plainly refl))
+tested r.Braces = IsTested.in_then (IsTested.plainly refl) (IsTested.in_then (IsTested.in_maybe (IsTested.in_then (IsTested.plainly refl) (IsTested.in_then (IsTested.open_loop refl (items_taken _ false) (IsTested.plainly refl)) (IsTested.plainly refl)))) (IsTested.plainly refl))
 tested r.Item = IsTested.plainly refl
 tested r.Desig = IsTested.plainly refl
-tested r.Block = IsTested.in_then (IsTested.plainly refl) (IsTested.in_then (IsTested.in_many (IsTested.open_when (declaration_taken false) (IsTested.plainly refl) (IsTested.open_when (label_taken false) (IsTested.plainly refl) (IsTested.plainly refl)))) (IsTested.plainly refl))
+tested r.Block = IsTested.in_then (IsTested.plainly refl) (IsTested.in_then (IsTested.in_many (IsTested.open_when refl (declaration_taken false) (IsTested.plainly refl) (IsTested.open_when refl (label_taken false) (IsTested.plainly refl) (IsTested.plainly refl)))) (IsTested.plainly refl))
 tested r.Label = IsTested.plainly refl
 tested r.Statement = IsTested.plainly refl
 tested r.Expr = IsTested.plainly refl
@@ -200,10 +201,10 @@ tested r.Rel = IsTested.plainly refl
 tested r.Shift = IsTested.plainly refl
 tested r.Sum = IsTested.plainly refl
 tested r.Product = IsTested.plainly refl
-tested r.Cast = IsTested.open_when (cast_taken false) (IsTested.plainly refl) (IsTested.plainly refl)
-tested r.Unary = IsTested.in_or (IsTested.plainly refl) (IsTested.in_or (IsTested.plainly refl) (IsTested.in_or (IsTested.plainly refl) (IsTested.in_or (IsTested.in_then (IsTested.plainly refl) (IsTested.open_when (operand_taken false) (IsTested.plainly refl) (IsTested.plainly refl))) (IsTested.plainly refl))))
+tested r.Cast = IsTested.open_when refl (cast_taken false) (IsTested.plainly refl) (IsTested.plainly refl)
+tested r.Unary = IsTested.in_or (IsTested.plainly refl) (IsTested.in_or (IsTested.plainly refl) (IsTested.in_or (IsTested.plainly refl) (IsTested.in_or (IsTested.in_then (IsTested.plainly refl) (IsTested.open_when refl (operand_taken false) (IsTested.plainly refl) (IsTested.plainly refl))) (IsTested.plainly refl))))
 tested r.Postfix = IsTested.plainly refl
-tested r.Primary = IsTested.in_or (IsTested.plainly refl) (IsTested.in_or (IsTested.plainly refl) (IsTested.in_or (IsTested.plainly refl) (IsTested.in_or (IsTested.plainly refl) (IsTested.open_when (parenthesized_taken _ _) (IsTested.plainly refl) (IsTested.plainly refl)))))
+tested r.Primary = IsTested.in_or (IsTested.plainly refl) (IsTested.in_or (IsTested.plainly refl) (IsTested.in_or (IsTested.plainly refl) (IsTested.in_or (IsTested.plainly refl) (IsTested.open_when refl (parenthesized_taken _ _) (IsTested.plainly refl) (IsTested.plainly refl)))))
 tested r.Literal = IsTested.plainly refl
 tested r.Balanced = IsTested.plainly refl
 tested r.Declared = IsTested.plainly refl

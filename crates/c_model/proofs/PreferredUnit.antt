@@ -16,29 +16,31 @@ use Rattle.c_model.specs.OpenTable.{opened}
 use Rattle.c_model.specs.ParserTable.{table}
 use Rattle.c_model.specs.ParserSets.{tables, follows}
 use Rattle.c_model.specs.ParserTests.{parsed}
-use Rattle.c_model.proofs.KindSets.{and_left, and_right, not_true, clash, within_mem, apart_mem, mem_split}
+use Rattle.c_model.proofs.KindSets.{and_left, and_right, not_true, clash, within_mem, apart_mem, mem_left, mem_split}
 use Rattle.c_model.proofs.DecidedGrammar.{lead, ahead_keeps, within_rule}
 use Rattle.c_model.proofs.ParserDecided.{quiet, checked}
 use Rattle.c_model.proofs.ClearBrackets.{clear, is_balanced, stays_clear}
 use Rattle.c_model.proofs.OpenFlows.{flows, flow}
-use Rattle.c_model.proofs.RegainTable.{Clear, IsDerived, regain, inner, steady}
+use Rattle.c_model.proofs.RegainTable.{Clear, inner, steady}
+use Rattle.c_model.proofs.OpenSuffixes.{ends_open, suffixed, suffix_form, IsKept, the_whole}
+use Rattle.c_model.proofs.RegainForms.{regain, then_first, then_second, or_first, or_second, maybe_part, many_turn}
 use Rattle.c_model.proofs.RegainUnit.{each}
 use Rattle.c_model.proofs.ChoiceOrder.{IsTaking, moved, not_itself, not_both}
-use Rattle.c_model.proofs.OpenForms.{stays, opens, open_form, flows_when, flows_loop, same_first, same_leads}
+use Rattle.c_model.proofs.OpenForms.{stays, opens, open_form, flows_when, flows_loop, suffixed_chosen, suffixed_other, suffixed_turn, same_first, same_leads}
 use Rattle.c_model.proofs.OpenChoices.{open_choices, opened_of}
 use Rattle.c_model.proofs.PreferredTests.{Parameter, gives_parameter, IsTaken, plain, IsTested, tested}
 use Rattle.c_model.proofs.Compared.{Compared, itself, retaken, marked, closed, joined, choose_first, choose_second, choose_done, choose_again}
 
 -- the parts of a form with its tests
-then_first : {k : Test → Bool} {f g : Form} {b c : Bool} → IsTested k (f then g) b c → IsTested k f b c
+tested_first : {k : Test → Bool} {f g : Form} {b c : Bool} → IsTested k (f then g) b c → IsTested k f b c
 unfolding plain
-then_first {k = k} {g = g} (IsTested.plainly q) = IsTested.plainly (and_left _ (plain k g) q)
-then_first (IsTested.in_then t u) = t
+tested_first {k = k} {g = g} (IsTested.plainly q) = IsTested.plainly (and_left _ (plain k g) q)
+tested_first (IsTested.in_then t u) = t
 
-then_second : {k : Test → Bool} {f g : Form} {b c : Bool} → IsTested k (f then g) b c → IsTested k g (clear (opens k f) b) (gives_parameter f)
+tested_second : {k : Test → Bool} {f g : Form} {b c : Bool} → IsTested k (f then g) b c → IsTested k g (clear (opens k f) b) (gives_parameter f)
 unfolding plain
-then_second {k = k} {f = f} (IsTested.plainly q) = IsTested.plainly (and_right (plain k f) _ q)
-then_second (IsTested.in_then t u) = u
+tested_second {k = k} {f = f} (IsTested.plainly q) = IsTested.plainly (and_right (plain k f) _ q)
+tested_second (IsTested.in_then t u) = u
 
 or_left : {k : Test → Bool} {f g : Form} {b c : Bool} → IsTested k (f or g) b c → IsTested k f b c
 unfolding plain
@@ -68,38 +70,50 @@ when_first : {k : Test → Bool} {p : Test} {f g : Form} {b c : Bool} → IsTest
 unfolding plain
 when_first {k = k} {p = p} {g = g} (IsTested.plainly q) = IsTested.plainly (and_left _ (plain k g) (and_right (k p) _ q))
 when_first (IsTested.kept_when e t u) = t
-when_first (IsTested.open_when e t u) = t
+when_first (IsTested.open_when n e t u) = t
 
 when_second : {k : Test → Bool} {p : Test} {f g : Form} {b c : Bool} → IsTested k (when p f g) b c → IsTested k g b c
 unfolding plain
 when_second {k = k} {p = p} {f = f} (IsTested.plainly q) = IsTested.plainly (and_right (plain k f) _ (and_right (k p) _ q))
 when_second (IsTested.kept_when e t u) = u
-when_second (IsTested.open_when e t u) = u
+when_second (IsTested.open_when n e t u) = u
 
 when_taken : {k : Test → Bool} {p : Test} {f g : Form} {b c : Bool} → IsTested k (when p f g) b c → k p ≡ false → IsTaken p (opens k f) b c
 unfolding plain
 when_taken {k = k} {p = p} {f = f} {g = g} (IsTested.plainly q) h = absurd (clash (k p) (and_left (k p) (plain k f && plain k g) q) h)
 when_taken {k = k} {p = p} (IsTested.kept_when e t u) h = absurd (clash (k p) e h)
-when_taken (IsTested.open_when e t u) h = e
+when_taken (IsTested.open_when n e t u) h = e
+
+when_closed : {k : Test → Bool} {p : Test} {f g : Form} {b c : Bool} → IsTested k (when p f g) b c → k p ≡ false → ends_open (opens k f) ≡ false
+unfolding plain
+when_closed {k = k} {p = p} {f = f} {g = g} (IsTested.plainly q) h = absurd (clash (k p) (and_left (k p) (plain k f && plain k g) q) h)
+when_closed {k = k} {p = p} (IsTested.kept_when e t u) h = absurd (clash (k p) e h)
+when_closed (IsTested.open_when n e t u) h = n
 
 of_loop : {k : Test → Bool} {p : Test} {f : Form} {b c : Bool} → IsTested k (loop p f) b c → IsTested k f b false
 unfolding plain
 of_loop {k = k} {p = p} (IsTested.plainly q) = IsTested.plainly (and_right (k p) _ q)
-of_loop (IsTested.open_loop e t) = t
+of_loop (IsTested.open_loop n e t) = t
 
 loop_again : {k : Test → Bool} {p : Test} {f : Form} {b c : Bool} → IsTested k (loop p f) b c → IsTested k (loop p f) b false
 loop_again (IsTested.plainly q) = IsTested.plainly q
-loop_again (IsTested.open_loop e t) = IsTested.open_loop e t
+loop_again (IsTested.open_loop n e t) = IsTested.open_loop n e t
 
 loop_taken : {k : Test → Bool} {p : Test} {f : Form} {b c : Bool} → IsTested k (loop p f) b c → k p ≡ false → IsTaken p (opens k f) b false
 unfolding plain
 loop_taken {k = k} {p = p} {f = f} (IsTested.plainly q) h = absurd (clash (k p) (and_left (k p) (plain k f) q) h)
-loop_taken (IsTested.open_loop e t) h = e
+loop_taken (IsTested.open_loop n e t) h = e
+
+loop_closed : {k : Test → Bool} {p : Test} {f : Form} {b c : Bool} → IsTested k (loop p f) b c → k p ≡ false → ends_open (opens k f) ≡ false
+unfolding plain
+loop_closed {k = k} {p = p} {f = f} (IsTested.plainly q) h = absurd (clash (k p) (and_left (k p) (plain k f) q) h)
+loop_closed (IsTested.open_loop n e t) h = n
 
 -- a form of the parser's table where F may follow it
 record IsReady (k : Test → Bool) (f : Form) (F : List ℕ) (b c : Bool) : Type 0 where
   pub sets : decided tables f F ≡ true
   pub follow : flows (opens k f) F b ≡ true
+  pub suffixes : suffixed (opens k f) F ≡ true
   pub tests : IsTested k f b c
 
 to_first : {k : Test → Bool} {f g : Form} {F : List ℕ} {b c : Bool} → IsReady k (f then g) F b c → IsReady k f (leads tables g F) b c
@@ -107,7 +121,8 @@ unfolding decided flows opens
 to_first {k = k} {f = f} {g = g} {F = F} {b = b} w = record {
   sets = and_left _ (decided tables g F) w.sets;
   follow = subst (λ z. flows (opens k f) z b ≡ true) (same_leads k g F) (and_left _ (flows (opens k g) F (clear (opens k f) b)) w.follow);
-  tests = then_first w.tests;
+  suffixes = subst (λ z. suffixed (opens k f) z ≡ true) (same_leads k g F) (then_first (opens k f) (opens k g) F w.suffixes);
+  tests = tested_first w.tests;
 }
 
 to_second : {k : Test → Bool} {f g : Form} {F : List ℕ} {b c : Bool} → IsReady k (f then g) F b c → IsReady k g F (clear (opens k f) b) (gives_parameter f)
@@ -115,7 +130,8 @@ unfolding decided flows opens
 to_second {k = k} {f = f} {g = g} {F = F} {b = b} w = record {
   sets = and_right (decided tables f (leads tables g F)) _ w.sets;
   follow = and_right (flows (opens k f) (leads tables (opens k g) F) b) _ w.follow;
-  tests = then_second w.tests;
+  suffixes = then_second (opens k f) (opens k g) F w.suffixes;
+  tests = tested_second w.tests;
 }
 
 to_left : {k : Test → Bool} {f g : Form} {F : List ℕ} {b c : Bool} → IsReady k (f or g) F b c → IsReady k f F b c
@@ -123,6 +139,7 @@ unfolding decided flows opens
 to_left {k = k} {f = f} {g = g} {F = F} {b = b} w = record {
   sets = and_right _ _ (and_left _ (decided tables g F) w.sets);
   follow = and_left _ (flows (opens k g) F b) w.follow;
+  suffixes = or_first (opens k f) (opens k g) F w.suffixes;
   tests = or_left w.tests;
 }
 
@@ -131,6 +148,7 @@ unfolding decided flows opens
 to_right {k = k} {f = f} {g = g} {F = F} {b = b} w = record {
   sets = and_right (apart tables (leads tables f F) (leads tables g F) && decided tables f F) _ w.sets;
   follow = and_right (flows (opens k f) F b) _ w.follow;
+  suffixes = or_second (opens k f) (opens k g) F w.suffixes;
   tests = or_right w.tests;
 }
 
@@ -139,6 +157,7 @@ unfolding decided flows opens
 to_maybe {k = k} {f = f} {F = F} {b = b} w = record {
   sets = and_right (not (nullable tables f) && apart tables (first tables f) F) _ w.sets;
   follow = w.follow;
+  suffixes = maybe_part (opens k f) F w.suffixes;
   tests = of_maybe w.tests;
 }
 
@@ -147,17 +166,19 @@ unfolding decided flows opens
 to_many {k = k} {f = f} {F = F} {b = b} w = record {
   sets = and_right (not (nullable tables f) && apart tables (first tables f) F) _ w.sets;
   follow = subst (λ z. flows (opens k f) (z ++ F) b ≡ true) (same_first k f) (and_right (not b || clear (opens k f) b) _ w.follow);
+  suffixes = subst (λ z. suffixed (opens k f) (z ++ F) ≡ true) (same_first k f) (many_turn (opens k f) F w.suffixes);
   tests = of_many w.tests;
 }
 
 to_more : {k : Test → Bool} {f : Form} {F : List ℕ} {b c : Bool} → IsReady k (many f) F b c → IsReady k (many f) F b false
-to_more w = record { sets = w.sets; follow = w.follow; tests = many_again w.tests }
+to_more w = record { sets = w.sets; follow = w.follow; suffixes = w.suffixes; tests = many_again w.tests }
 
 to_chosen : {k : Test → Bool} {p : Test} {f g : Form} {F : List ℕ} {b c : Bool} → IsReady k (when p f g) F b c → IsReady k f F b c
 unfolding decided opens
 to_chosen {k = k} {p = p} {f = f} {g = g} {F = F} {b = b} w = record {
   sets = and_left _ (decided tables g F) w.sets;
   follow = and_left (flows (opens k f) F b) (flows (opens k g) F b) (sym (flows_when (k p) p (opens k f) (opens k g) F b) ∙ w.follow);
+  suffixes = suffixed_chosen (k p) p (opens k f) (opens k g) F w.suffixes;
   tests = when_first w.tests;
 }
 
@@ -166,6 +187,7 @@ unfolding decided opens
 to_other {k = k} {p = p} {f = f} {g = g} {F = F} {b = b} w = record {
   sets = and_right (decided tables f F) _ w.sets;
   follow = and_right (flows (opens k f) F b) (flows (opens k g) F b) (sym (flows_when (k p) p (opens k f) (opens k g) F b) ∙ w.follow);
+  suffixes = suffixed_other (k p) p (opens k f) (opens k g) F w.suffixes;
   tests = when_second w.tests;
 }
 
@@ -174,20 +196,22 @@ unfolding opens
 loop_flows {k = k} {p = p} {f = f} {F = F} {b = b} w = sym (flows_loop (k p) p (opens k f) F b) ∙ w.follow
 
 to_loop : {k : Test → Bool} {p : Test} {f : Form} {F : List ℕ} {b c : Bool} → IsReady k (loop p f) F b c → IsReady k f (first tables f ++ F) b false
-unfolding decided
-to_loop {k = k} {f = f} {F = F} {b = b} w = record {
+unfolding decided opens
+to_loop {k = k} {p = p} {f = f} {F = F} {b = b} w = record {
   sets = and_right (not (nullable tables f)) _ w.sets;
   follow = subst (λ z. flows (opens k f) (z ++ F) b ≡ true) (same_first k f) (and_right (not b || clear (opens k f) b) _ (loop_flows w));
+  suffixes = subst (λ z. suffixed (opens k f) (z ++ F) ≡ true) (same_first k f) (suffixed_turn (k p) p (opens k f) F w.suffixes);
   tests = of_loop w.tests;
 }
 
 to_further : {k : Test → Bool} {p : Test} {f : Form} {F : List ℕ} {b c : Bool} → IsReady k (loop p f) F b c → IsReady k (loop p f) F b false
-to_further w = record { sets = w.sets; follow = w.follow; tests = loop_again w.tests }
+to_further w = record { sets = w.sets; follow = w.follow; suffixes = w.suffixes; tests = loop_again w.tests }
 
 of_rule : (n : Rule) → IsReady (stays n) (table n) (follows n) (not (is_balanced n)) false
 of_rule n = record {
   sets = within_rule tables parsed quiet checked n;
   follow = subst (λ z. flows z (follows n) (not (is_balanced n)) ≡ true) (sym (open_form n)) (flow n);
+  suffixes = subst (λ z. suffixed z (follows n) ≡ true) (sym (open_form n)) (suffix_form n);
   tests = tested n;
 }
 
@@ -195,11 +219,16 @@ at_follow : (n : Rule) (F : List ℕ) (s : Scopes) (rest : List Terminal) → wi
 at_follow n F s rest w h = ahead_keeps tables parsed quiet checked n s rest (within_mem tables _ F (follows n) w h)
 
 -- what comes next where a form of the open table derives it
-regained : {k : Test → Bool} {f : Form} {F : List ℕ} {b c : Bool} {s new : Scopes} {ts rest : List Terminal} {xs : List Tree} → IsReady k f F b c → Clear b s → Derives opened (opens k f) s ts xs new rest → mem (ahead tables parsed new rest) F ≡ true → IsDerived (opens k f) s ts new rest
-regained {F = F} {b = b} w x o h = regain each o F b w.follow x h
+regained : {k : Test → Bool} {f : Form} {F : List ℕ} {b c : Bool} {s new : Scopes} {ts rest : List Terminal} {xs : List Tree} → IsReady k f F b c → Clear b s → Derives opened (opens k f) s ts xs new rest → mem (ahead tables parsed new rest) F ≡ true → IsKept (opens k f) s ts new rest
+regained {F = F} {b = b} w x o h = regain each o F b w.follow w.suffixes x h
+
+kept_lead : (f : Form) (F : List ℕ) {s new : Scopes} {ts rest : List Terminal} → IsKept f s ts new rest → mem (ahead tables parsed new rest) F ≡ true → mem (ahead tables parsed s ts) (leads tables f F) ≡ true
+unfolding leads
+kept_lead f F (IsKept.whole d) h = lead tables parsed quiet checked F d h
+kept_lead f F (IsKept.half i a m g) h = mem_left _ _ _ m
 
 open_lead : {k : Test → Bool} {f : Form} {F : List ℕ} {b c : Bool} {s new : Scopes} {ts rest : List Terminal} {xs : List Tree} → IsReady k f F b c → Clear b s → Derives opened (opens k f) s ts xs new rest → mem (ahead tables parsed new rest) F ≡ true → mem (ahead tables parsed s ts) (leads tables f F) ≡ true
-open_lead {k = k} {f = f} {F = F} {s = s} {ts = ts} w x o h = subst (λ z. mem (ahead tables parsed s ts) z ≡ true) (same_leads k f F) (lead tables parsed quiet checked F (regained w x o h).is h)
+open_lead {k = k} {f = f} {F = F} {s = s} {ts = ts} w x o h = subst (λ z. mem (ahead tables parsed s ts) z ≡ true) (same_leads k f F) (kept_lead (opens k f) F (regained w x o h) h)
 
 only_first : (f : Form) (F : List ℕ) (j : ℕ) → not (nullable tables f) ≡ true → mem j (leads tables f F) ≡ true → mem j (first tables f) ≡ true
 unfolding leads
@@ -270,11 +299,11 @@ prefer k {f = many f} {s = s} (Derives.turn {mid = mid} d d' q) (Derives.turn {m
 prefer k {f = when p f g} (Derives.chosen a d) o F b c w x y h h' = choose_first (k p) p (opens k f) (opens k g) a (λ o. prefer k d o F b c (to_chosen w) x y h h') o
 prefer k {f = when p f g} {s = s} {new' = new'} {ts = ts} {rest' = rest'} (Derives.other a d) o F b c w x y h h' =
     choose_second (k p) p (opens k f) (opens k g) a (λ e o.
-    let t = regained (to_chosen w) x o h' in
+    let t = the_whole (when_closed w.tests e) (regained (to_chosen w) x o h') in
     clash _ ((when_taken w.tests e).holds s new' ts rest' t.trees x y t.is) a) (λ o. prefer k d o F b c (to_other w) x y h h') o
 prefer k {f = loop p f} {s = s} {ts = ts} (Derives.done a) o F b c w x y h h' = choose_done (k p) p (opens k f) a (λ e mid' later' ys zs o o'.
     let x' : Clear b mid' = λ e. stays_clear o b x (steady b _ (and_left _ (flows (opens k f) (first tables (opens k f) ++ F) b) (loop_flows w)) e) in
-    let t = regained (to_loop w) x o (open_lead w x' o' h') in
+    let t = the_whole (loop_closed w.tests e) (regained (to_loop w) x o (open_lead w x' o' h')) in
     clash _ ((loop_taken w.tests e).holds s mid' ts later' t.trees x (no_parameter s) t.is) a) o
 prefer k {f = loop p f} {s = s} (Derives.again {mid = mid} a d d' q) o F b c w x y h h' = choose_again (k p) p (opens k f) a (λ mid' later' ys zs o o'.
     let x' : Clear b mid' = λ e. stays_clear o b x (steady b _ (and_left _ (flows (opens k f) (first tables (opens k f) ++ F) b) (loop_flows w)) e) in
@@ -287,8 +316,8 @@ not_earlier {cs = cs} {ds = ds} (Compared.before b) e = not_both cs ds b e
 not_earlier {ds = ds} (Compared.alike q _ _) e = not_itself ds (subst (λ z. Earlier ds z) q e)
 
 unit_ready : (k : Test → Bool) → IsReady k (rule r.Unit) (0 ∷ []) true false
-unfolding decided flows opens plain within follows mem is_balanced
-unit_ready k = record { sets = refl; follow = refl; tests = IsTested.plainly refl }
+unfolding decided flows suffixed opens plain within follows mem is_balanced
+unit_ready k = record { sets = refl; follow = refl; suffixes = refl; tests = IsTested.plainly refl }
 
 at_end : (s : Scopes) → mem (ahead tables parsed s []) (0 ∷ []) ≡ true
 unfolding mem ahead

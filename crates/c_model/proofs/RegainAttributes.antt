@@ -63,13 +63,13 @@ attributes_begun {ts = ts} (Begins.in_turn d) = one_begun (sees_attribute ts) re
 attributes_begun (Begins.in_later d e) = one_more d (attributes_begun e)
 
 -- the bracket of one more array
-suffixes_little : {s : Scopes} {ts rest : List Terminal} → IsLittle ts rest → Begins parsed (many (rule r.Suffix)) s ts rest
+pub suffixes_little : {s : Scopes} {ts rest : List Terminal} → IsLittle ts rest → Begins parsed (many (rule r.Suffix)) s ts rest
 unfolding table
 suffixes_little IsLittle.unread = Begins.yet
 suffixes_little {s = s} (IsLittle.bracket {t = t} h) = Begins.in_turn (Begins.in_rule (Begins.in_left (Begins.in_first (Begins.in_word (bracket_shown s t h)))))
 
 -- where an attribute comes, no more than its first bracket begins a suffix
-little_suffix : {s : Scopes} {ts rest : List Terminal} → sees_attribute ts ≡ true → Begins parsed (many (rule r.Suffix)) s ts rest → IsLittle ts rest
+pub little_suffix : {s : Scopes} {ts rest : List Terminal} → sees_attribute ts ≡ true → Begins parsed (many (rule r.Suffix)) s ts rest → IsLittle ts rest
 little_suffix b Begins.yet = IsLittle.unread
 little_suffix {ts = ts} b (Begins.in_turn d) = elim (suffix_begun d) [
   | inl o ↦ absurd (opens_no_attribute ts b o)
@@ -77,7 +77,7 @@ little_suffix {ts = ts} b (Begins.in_turn d) = elim (suffix_begun d) [
 ]
 little_suffix {ts = ts} b (Begins.in_later d e) = absurd (clash (sees_attribute ts) b (suffix_unattributed d))
 
-little_attribute : {s : Scopes} {ts rest : List Terminal} → sees_attribute ts ≡ true → IsLittle ts rest → Begins parsed (loop test.AttributeAhead (rule r.Attr)) s ts rest
+pub little_attribute : {s : Scopes} {ts rest : List Terminal} → sees_attribute ts ≡ true → IsLittle ts rest → Begins parsed (loop test.AttributeAhead (rule r.Attr)) s ts rest
 unfolding table
 little_attribute b IsLittle.unread = Begins.yet
 little_attribute {s = s} b (IsLittle.bracket {t = t} h) = Begins.in_again b (Begins.in_rule (Begins.in_first (Begins.in_word (bracket_shown s t h))))

@@ -100,7 +100,7 @@ pointer_abstract (Begins.in_first d) = Begins.in_rule (Begins.in_left (Begins.in
 pointer_abstract (Begins.in_then e d) = Begins.in_rule (Begins.in_left (Begins.in_then e (attributes_part d)))
 
 -- one more turn, begun
-pub extended : {f : Form} {s mid : Scopes} {ts later rest : List Terminal} {xs : List Tree} → Derives parsed (many f) s ts xs mid later → Begins parsed f mid later rest → Begins parsed (many f) s ts rest
+extended : {f : Form} {s mid : Scopes} {ts later rest : List Terminal} {xs : List Tree} → Derives parsed (many f) s ts xs mid later → Begins parsed f mid later rest → Begins parsed (many f) s ts rest
 extended Derives.stop b = Begins.in_turn b
 extended (Derives.turn d e _) b = Begins.in_later d (extended e b)
 

@@ -1,5 +1,5 @@
 -- The parser's table and the table that is open in its tests derive and begin the same.
-use Rattle.std.proofs.Common.{◌≡◌, ℕ, Bool, true, List, [], ◌∷◌, refl, subst, ◌∙◌}
+use Rattle.std.proofs.Common.{◌≡◌, ℕ, Bool, true, false, List, [], ◌∷◌, refl, subst, ◌∙◌}
 use Rattle.c_model.specs.declared.grammar.Rule.{Rule}
 use Rattle.c_model.specs.declared.grammar.Rule.TheVariants as r
 use Rattle.c_model.specs.declared.grammar.Act.TheVariants as act
@@ -23,7 +23,10 @@ use Rattle.c_model.proofs.Forget.{same_table}
 use Rattle.c_model.proofs.Loosen.{loosen, loosen_begun}
 use Rattle.c_model.proofs.OpenFlows.{flows}
 use Rattle.c_model.proofs.ClearBrackets.{is_balanced}
-use Rattle.c_model.proofs.RegainTable.{IsRegained, regain, regain_begun}
+use Rattle.c_model.proofs.RegainTable.{IsRegained}
+use Rattle.c_model.proofs.OpenSuffixes.{is_suffix, ends_open, suffixed, the_whole, the_held, IsProduced, produced}
+use Rattle.c_model.proofs.RegainSuffix.{suffix}
+use Rattle.c_model.proofs.RegainForms.{regain, regain_begun}
 use Rattle.c_model.proofs.RegainAttributes.{direct, pointer}
 use Rattle.c_model.proofs.RegainParameters.{parameters}
 use Rattle.c_model.proofs.RegainPrimary.{primary}
@@ -38,22 +41,23 @@ use Rattle.c_model.proofs.RegainCast.{cast_expression, unary_expression}
 unchanged : (n : Rule) → open_table n ≡ table n → IsRegained n
 unchanged n q = record { derived = λ s new ts rest xs c d h. record { trees = xs; is = subst (λ f. Derives parsed f s ts xs new rest) q d }; begun = λ s ts rest c d. subst (λ f. Begins parsed f s ts rest) q d }
 
-pub each : (n : Rule) → IsRegained n
+pub each : (n : Rule) → IsProduced n
 unfolding open_table table
-each r.Direct = direct
-each r.Params = parameters
-each r.Abstract = pointer
-each r.Adirect = abstract_declarator
-each r.Braces = braces
-each r.Primary = primary
-each r.Enum = enumeration
-each r.Declaration = declaration
-each r.Block = block_items
-each r.External = external
-each r.Param = parameter
-each r.Cast = cast_expression
-each r.Unary = unary_expression
-each n = unchanged n refl
+each r.Direct = produced r.Direct direct
+each r.Suffix = suffix
+each r.Params = produced r.Params parameters
+each r.Abstract = produced r.Abstract pointer
+each r.Adirect = produced r.Adirect abstract_declarator
+each r.Braces = produced r.Braces braces
+each r.Primary = produced r.Primary primary
+each r.Enum = produced r.Enum enumeration
+each r.Declaration = produced r.Declaration declaration
+each r.Block = produced r.Block block_items
+each r.External = produced r.External external
+each r.Param = produced r.Param parameter
+each r.Cast = produced r.Cast cast_expression
+each r.Unary = produced r.Unary unary_expression
+each n = produced n (unchanged n refl)
 
 at_start : (b : Bool) → b ≡ true → start.brackets ≡ []
 at_start b h = refl
@@ -66,11 +70,19 @@ at_end : (s : Scopes) → mem (ahead tables parsed s []) (0 ∷ []) ≡ true
 unfolding mem ahead
 at_end s = refl
 
+unit_suffixed : suffixed (rule r.Unit) (0 ∷ []) ≡ true
+unfolding suffixed
+unit_suffixed = refl
+
+unit_closed : ends_open (rule r.Unit) ≡ false
+unfolding ends_open is_suffix
+unit_closed = refl
+
 pub whole : (ts : List Terminal) (xs : List Tree) (new : Scopes) → Derives opened (rule r.Unit) start ts xs new [] → (ys : List Tree) × Derives parsed (rule r.Unit) start ts ys new []
-whole ts xs new d = let e = regain each d (0 ∷ []) true unit_flows (at_start true) (at_end new) in (e.trees, e.is)
+whole ts xs new d = let e = the_whole unit_closed (regain each d (0 ∷ []) true unit_flows unit_suffixed (at_start true) (at_end new)) in (e.trees, e.is)
 
 pub front : (ts rest : List Terminal) → Begins opened (rule r.Unit) start ts rest → Begins parsed (rule r.Unit) start ts rest
-front ts rest d = regain_begun each d (0 ∷ []) true unit_flows (at_start true)
+front ts rest d = the_held unit_closed (regain_begun each d (0 ∷ []) true unit_flows unit_suffixed (at_start true))
 
 -- and back
 enumerated : {s new : Scopes} {ts rest : List Terminal} {xs : List Tree} {p : Test} {f : Form} → Derives opened (loop p f) s ts xs new rest → Derives opened (many f) s ts xs new rest
@@ -129,6 +141,7 @@ loosened n q = record { derived = λ s new ts rest xs d. subst (λ f. Derives op
 loose : (n : Rule) → IsLoose n
 unfolding open_table table
 loose r.Direct = loosened r.Direct refl
+loose r.Suffix = loosened r.Suffix refl
 loose r.Params = loosened r.Params refl
 loose r.Abstract = loosened r.Abstract refl
 loose r.Adirect = loosened r.Adirect refl

@@ -1,7 +1,7 @@
 -- The parser's table without the tests that are proved to lose nothing: in these productions the grammar's stands, in
 -- which either alternative may be taken wherever it derives or begins what comes. What is left of the tests: a list of
--- type specifiers and qualifiers takes each that comes next; braces that come next belong to the nearest `struct` or
--- `enum` that may have them; and behind an array or a list of parameters `[` and `[` begin an attribute.
+-- type specifiers and qualifiers takes each that comes next, and braces that come next belong to the nearest `struct` or
+-- `enum` that may have them.
 use Rattle.std.specs.Prelude.{[], ◌∷◌}
 use Rattle.c_model.specs.declared.grammar.Rule.{Rule}
 use Rattle.c_model.specs.declared.grammar.Rule.TheVariants as r
@@ -25,6 +25,7 @@ open_table r.Declaration = grammar r.Declaration
 open_table r.Block = grammar r.Block
 open_table r.Param = grammar r.Param
 open_table r.Direct = grammar r.Direct
+open_table r.Suffix = grammar r.Suffix
 open_table r.Params = grammar r.Params
 open_table r.Abstract = grammar r.Abstract
 open_table r.Adirect = grammar r.Adirect
