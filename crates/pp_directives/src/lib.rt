@@ -5,6 +5,8 @@ mod branches;
 mod conditionals;
 mod control;
 mod errors;
+#[cfg(test)]
+mod file_tests;
 mod headers;
 mod kinds;
 mod lines;

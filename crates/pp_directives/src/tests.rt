@@ -8,11 +8,11 @@ use std::test::Fail;
 
 /// What preprocessing answers, the names of its files, its notes and its marks, each in one line.
 #[derive(Drop)]
-struct Answered {
-    answer: String,
-    names: String,
-    notes: String,
-    marks: String,
+pub struct Answered {
+    pub answer: String,
+    pub names: String,
+    pub notes: String,
+    pub marks: String,
 }
 
 /// The spellings, parted by blanks.
@@ -60,7 +60,7 @@ fn placed(alloc: Global, log: &PrepLog, place: Place) -> Result<String, Fail> {
 }
 
 /// The rule, the limit or the file, with its place.
-fn reported(alloc: Global, log: &PrepLog, error: PrepError) -> Result<String, Fail> {
+pub fn reported(alloc: Global, log: &PrepLog, error: PrepError) -> Result<String, Fail> {
     match error {
         PrepError::Fault(f) => {
             let number = digits(alloc, f.rule.number)?;
@@ -130,7 +130,7 @@ fn marks_of(alloc: Global, marks: &Marks) -> Result<String, Fail> {
 }
 
 /// Preprocesses the file of that name with the directories `inc` and `sys`, and with `-D GIVEN=1+1`.
-fn preprocessed(alloc: Global, files: &mut MemFiles, name: &str) -> Result<Answered, Fail> {
+pub fn preprocessed(alloc: Global, files: &mut MemFiles, name: &str) -> Result<Answered, Fail> {
     let mut options = Options::new(alloc);
     options.define(b"GIVEN", b"1+1")?;
     options.dir("inc")?;
@@ -152,7 +152,7 @@ fn preprocessed(alloc: Global, files: &mut MemFiles, name: &str) -> Result<Answe
 }
 
 /// Files with these names and texts.
-fn holding(alloc: Global, held: &[(&str, &str)]) -> Result<MemFiles, Fail> {
+pub fn holding(alloc: Global, held: &[(&str, &str)]) -> Result<MemFiles, Fail> {
     let mut files = MemFiles::new(alloc);
     for (name, text) in held {
         files.add(name, text.as_bytes())?;
