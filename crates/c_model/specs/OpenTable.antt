@@ -1,7 +1,7 @@
 -- The parser's table without the tests that are proved to lose nothing: in these productions the grammar's stands, in
--- which either alternative may be taken wherever it derives or begins what comes. What is left of the tests: a list of
--- type specifiers and qualifiers takes each that comes next, and braces that come next belong to the nearest `struct` or
--- `enum` that may have them.
+-- which either alternative may be taken wherever it derives or begins what comes. What is left of the tests: which of
+-- several enumerations with types takes braces behind them, and whether braces behind the tag of a structure there are
+-- its members.
 use Rattle.std.specs.Prelude.{[], ◌∷◌}
 use Rattle.c_model.specs.declared.grammar.Rule.{Rule}
 use Rattle.c_model.specs.declared.grammar.Rule.TheVariants as r
