@@ -11,6 +11,7 @@ ghost use Rattle.c_model.specs.NameScopes.{Scopes, start};
 ghost use Rattle.c_model.specs.SyntaxTree.{c_language};
 ghost use Rattle.c_model.specs.Grammar.{grammar};
 ghost use Rattle.c_model.specs.OpenTable.{opened};
+ghost use Rattle.c_model.specs.OneAnswer.{ExcludeEachOther};
 ghost use Rattle.c_model.specs.Untested.{untested};
 ghost use Rattle.c_model.specs.ParserSets.{tables};
 ghost use Rattle.c_model.specs.ParserTable.{table};
@@ -69,4 +70,10 @@ pub fn tests_add_no_unit()
 #[tactic(auto, using(crate::proofs::RegainUnit::front_back))]
 pub fn tests_add_no_front()
     ensures { (ts rest : List Terminal) → Begins parsed (rule r.Unit) start ts rest → Begins opened (rule r.Unit) start ts rest }
+{}
+
+/// The tokens are a unit, have a first fault, or have a token in too many parts: at most one of the three, in one way.
+#[tactic(auto, using(crate::proofs::OneAnswer::exclude))]
+pub fn one_answer_of_grammar()
+    ensures { (ts : List Terminal) → ExcludeEachOther ts }
 {}
