@@ -58,6 +58,7 @@ pub mod RegainFunction
 pub mod Loosen
 pub mod RegainUnit
 pub mod OneAnswer
+pub mod SomeAnswer
 pub mod PpNumberLaws
 pub mod LiteralLaws
 pub mod Releases

@@ -12,7 +12,7 @@ use Rattle.c_model.proofs.KindSets.{clash}
 use Rattle.c_model.proofs.AlikeWalks.{alike, never, per_turn}
 
 -- the marks begin with these
-pub Starts : List Mark → List Mark → Type 0
+unfoldable pub Starts : List Mark → List Mark → Type 0
 Starts xs ys = (more : List Mark) × (ys ≡ xs ++ more)
 
 starts_self : (xs : List Mark) → Starts xs xs

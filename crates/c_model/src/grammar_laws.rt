@@ -11,7 +11,7 @@ ghost use Rattle.c_model.specs.NameScopes.{Scopes, start};
 ghost use Rattle.c_model.specs.SyntaxTree.{c_language};
 ghost use Rattle.c_model.specs.Grammar.{grammar};
 ghost use Rattle.c_model.specs.OpenTable.{opened};
-ghost use Rattle.c_model.specs.OneAnswer.{ExcludeEachOther};
+ghost use Rattle.c_model.specs.OneAnswer.{ExcludeEachOther, HasAnswer};
 ghost use Rattle.c_model.specs.Untested.{untested};
 ghost use Rattle.c_model.specs.ParserSets.{tables};
 ghost use Rattle.c_model.specs.ParserTable.{table};
@@ -76,4 +76,9 @@ pub fn tests_add_no_front()
 #[tactic(auto, using(crate::proofs::OneAnswer::exclude))]
 pub fn one_answer_of_grammar()
     ensures { (ts : List Terminal) → ExcludeEachOther ts }
+{}
+
+/// They are at least one of the three.
+pub fn some_answer_of_grammar()
+    ensures { (ts : List Terminal) → HasAnswer ts }
 {}
