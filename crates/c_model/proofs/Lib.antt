@@ -29,6 +29,7 @@ pub mod TableWeights
 pub mod TotalWalk
 pub mod AlikeWalks
 pub mod MarkedWalks
+pub mod MarksBehind
 pub mod OneMarking
 pub mod Forget
 pub mod ClearBrackets

@@ -8,7 +8,7 @@ use Rattle.c_model.specs.GrammarForm.{Form}
 use Rattle.c_model.specs.NameScopes.{Scopes, start}
 use Rattle.c_model.specs.Derivation.{Derives, Begins}
 use Rattle.c_model.specs.FaultPlace.{FaultsAt}
-use Rattle.c_model.specs.DepthPlace.{Mark, PassesLimit, AreShallow, IsFirstDeep, max_parts, marks, marks_so_far, nothing_read}
+use Rattle.c_model.specs.DepthPlace.{Mark, PassesLimit, AreShallow, IsFirstDeep, EndsDeep, max_parts, marks, marks_so_far, nothing_read}
 use Rattle.c_model.specs.ParserWalk.{Reads, Fails, Meets}
 use Rattle.c_model.specs.WalkedDerivation.{derivation, front, front_with}
 use Rattle.c_model.specs.ParserSets.{tables}
@@ -122,14 +122,6 @@ deep_inside {ts = ts} {xs = xs} {new = new} p k e h = by e p h
     by e = subst (λ z. (p : Reads tables parsed unit start ts xs new z) → IsFirstDeep (marks parsed (derivation tables parsed p)) k → IsTooDeep ts k) (sym e) (λ p h. in_unit (derivation tables parsed p) h)
 
 -- ---- a walk to a token that is too deep
-
--- the last mark is the first that passes the limit
-pub record EndsDeep (ms : List Mark) : Type 0 where
-  pub before : List Mark
-  pub mark : Mark
-  pub split : ms ≡ before ++ mark ∷ []
-  pub shallow : AreShallow before
-  pub deep : PassesLimit mark
 
 first_deep : (ms all : List Mark) (d : EndsDeep ms) → Starts ms all → IsFirstDeep all (length d.before)
 unfolding Starts

@@ -47,6 +47,9 @@ abbrev pub carried : ℕ → List Mark → ℕ → ℕ
 carried before [] after = max before after
 carried before (mark ∷ marks) after = after
 
+abbrev pub behind : ℕ → Piece → Piece
+behind ending p = record { marks = shown ending p.marks; height = p.height; ending = carried ending p.marks p.ending }
+
 -- one piece behind another
 abbrev pub joined : Piece → Piece → Piece
 joined p q = record { marks = p.marks ++ shown p.ending q.marks; height = max p.height q.height; ending = carried p.ending q.marks q.ending }
@@ -141,6 +144,14 @@ pub record IsFirstDeep (marks : List Mark) (k : ℕ) : Type 0 where
   pub later : List Mark
   pub split : marks ≡ before ++ mark ∷ later
   pub place : k ≡ length before
+  pub shallow : AreShallow before
+  pub deep : PassesLimit mark
+
+-- the last mark is the first that passes it
+pub record EndsDeep (marks : List Mark) : Type 0 where
+  pub before : List Mark
+  pub mark : Mark
+  pub split : marks ≡ before ++ mark ∷ []
   pub shallow : AreShallow before
   pub deep : PassesLimit mark
 
