@@ -12,6 +12,7 @@ ghost use Rattle.c_model.specs.NameScopes.{Scopes, start};
 ghost use Rattle.c_model.specs.SyntaxTree.{c_language};
 ghost use Rattle.c_model.specs.Grammar.{grammar};
 ghost use Rattle.c_model.specs.OpenTable.{opened};
+ghost use Rattle.c_model.specs.OneAnswer.{ExcludeEachOther, HasAnswer};
 ghost use Rattle.c_model.specs.Untested.{untested};
 ghost use Rattle.c_model.specs.ParserSets.{tables};
 ghost use Rattle.c_model.specs.ParserTable.{table};
@@ -84,4 +85,15 @@ pub fn one_preferred()
 #[tactic(auto, using(crate::proofs::PreferredUnit::preferred))]
 pub fn parsed_is_preferred()
     ensures { (ts : List Terminal) (xs : List Tree) (new : Scopes) → Derives parsed (rule r.Unit) start ts xs new [] → IsPreferred opened (rule r.Unit) start ts xs }
+{}
+
+/// The tokens are a unit, have a first fault, or have a token in too many parts: at most one of the three, in one way.
+#[tactic(auto, using(crate::proofs::OneAnswer::exclude))]
+pub fn one_answer_of_grammar()
+    ensures { (ts : List Terminal) → ExcludeEachOther ts }
+{}
+
+/// They are at least one of the three.
+pub fn some_answer_of_grammar()
+    ensures { (ts : List Terminal) → HasAnswer ts }
 {}
