@@ -18,6 +18,7 @@ use Rattle.c_model.specs.UnitSyntax.{unit, IsUnit, IsFault, IsTooDeep, Walk, stu
 use Rattle.c_model.specs.OneAnswer.{HasAnswer}
 use Rattle.c_model.proofs.DecidedGrammar.{unique, sound, begun, read_so_far, refuted, ended as goes_no_further, first_fault, no_longer, behind}
 use Rattle.c_model.proofs.ParserDecided.{quiet, checked}
+use Rattle.c_model.proofs.PreferredUnit.{preferred}
 use Rattle.c_model.proofs.Forget.{forget_unit, forget_begun_unit}
 use Rattle.c_model.proofs.RegainUnit.{open_fault}
 use Rattle.c_model.proofs.TotalWalk.{Outcome, read, failed, ends}
@@ -83,6 +84,7 @@ whole {ts = ts} {xs = xs} {new = new} p e h = by e p h
       scopes = new;
       derived = forget_unit ts xs new [] (derivation tables parsed p);
       alone = record { scopes = new; derived = derivation tables parsed p; alone = λ ys z k. (unique tables parsed quiet checked p (0 ∷ []) before_end k (at_end z)).trees };
+      preferred = preferred ts xs new (derivation tables parsed p);
       shallow = h;
     }
 
