@@ -117,6 +117,11 @@ deep_before {ts = ts} {rest = rest} w k d =
     let m = marked w in
     before_fault v.walk (open_fault ts _ (fault_at w)) (omega (arith, l, m)) (subst (λ z. IsFirstDeep z k) (sym v.marks_are) d)
 
+-- it stands at a token
+pub at_token : (ts : List Terminal) (k : ℕ) → IsTooDeep ts k → k < length ts
+at_token ts k (in_unit d a) = let l = inside (marks parsed d) k a in let m = derived_length parsed d false 0 nothing_read in omega (arith, l, m)
+at_token ts k (before_fault w f l a) = let m = f.within in omega (arith, l, m)
+
 pub deep_inside : {ts rest : List Terminal} {xs : List Tree} {new : Scopes} (p : Reads tables parsed unit start ts xs new rest) (k : ℕ) → rest ≡ [] → IsFirstDeep (marks parsed (derivation tables parsed p)) k → IsTooDeep ts k
 deep_inside {ts = ts} {xs = xs} {new = new} p k e h = by e p h
   where

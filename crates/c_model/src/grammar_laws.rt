@@ -1,5 +1,5 @@
 //! The laws of the grammar: each is the contract of a function that does nothing.
-ghost use Rattle.std.specs.Prelude.{◌≡◌, Bool, true, List, []};
+ghost use Rattle.std.specs.Prelude.{◌≡◌, ◌<◌, ℕ, Bool, true, List, [], length};
 ghost use Rattle.c_model.specs.declared.grammar.Rule.{Rule};
 ghost use Rattle.c_model.specs.declared.grammar.Rule.TheVariants as r;
 ghost use Rattle.c_model.specs.declared.grammar.Terminal.{Terminal};
@@ -13,6 +13,7 @@ ghost use Rattle.c_model.specs.SyntaxTree.{c_language};
 ghost use Rattle.c_model.specs.Grammar.{grammar};
 ghost use Rattle.c_model.specs.OpenTable.{opened};
 ghost use Rattle.c_model.specs.OneAnswer.{ExcludeEachOther, HasAnswer};
+ghost use Rattle.c_model.specs.UnitSyntax.{IsTooDeep};
 ghost use Rattle.c_model.specs.Untested.{untested};
 ghost use Rattle.c_model.specs.ParserSets.{tables};
 ghost use Rattle.c_model.specs.ParserTable.{table};
@@ -96,4 +97,10 @@ pub fn one_answer_of_grammar()
 /// They are at least one of the three.
 pub fn some_answer_of_grammar()
     ensures { (ts : List Terminal) → HasAnswer ts }
+{}
+
+/// What is met in too many parts is a token.
+#[tactic(auto, using(crate::proofs::SomeAnswer::at_token))]
+pub fn too_deep_at_token()
+    ensures { (ts : List Terminal) (k : ℕ) → IsTooDeep ts k → k < length ts }
 {}

@@ -26,10 +26,6 @@ use Rattle.c_parser.proofs.ReaderSteps.{both_shallow, later_deep}
 
 -- ---- one turn
 
-no_chain : (b : Bool) (u : Bool → Piece) (x : Piece) → b ≡ false → u b ≡ (if b then x else u false)
-no_chain true u x e = absurd (cc)
-no_chain false u x e = refl
-
 a_chain : (b : Bool) (x y : Piece) → b ≡ true → x ≡ (if b then x else y)
 a_chain true x y e = refl
 a_chain false x y e = absurd (cc)
@@ -38,31 +34,10 @@ pub unless_not : (b : Bool) → not b ≡ false → b ≡ true
 unless_not true e = refl
 unless_not false e = absurd (cc)
 
--- where the form is no chain
-pub plain_turn : (f : Form) (context : Context) (old new : Reader) (before later : List Tree) (r : Result (Unit {0}) Stop) → context.chain ≡ false → Told f context old new before later r → ToldTurn f context old new before later r
-plain_turn f context old new before later (Ok _) e a = record {
-  trees = a.trees;
-  put = a.put;
-  reads = a.reads;
-  kept = λ n p s. subst (λ z. Stands context new.heights n z) (no_chain context.chain (λ c. grown parsed c n (derivation tables parsed a.reads) p) _ e) (a.kept n p s);
-}
-plain_turn f context old new before later (Err stop.Fault) e a = record {
-  fails = a.fails;
-  shallow = λ n p s. subst (λ z. AreShallow z.marks) (no_chain context.chain (λ c. grown_so_far parsed c n (front tables parsed a.fails) p) _ e) (a.shallow n p s);
-}
-plain_turn f context old new before later (Err stop.Deep) e a = record {
-  token = a.token;
-  more = a.more;
-  next = a.next;
-  meets = a.meets;
-  deep = λ n p s. subst (λ z. EndsDeep z.marks) (no_chain context.chain (λ c. grown_so_far parsed c n (front_with tables parsed a.meets) p) _ e) (a.deep n p s);
-}
-plain_turn f context old new before later (Err stop.Memory) e a = tt
-
 stands_inside : (context inner : Context) (h start : Heights) (n : ℕ) (p : Piece) → inner ≡ record { parts = context.parts; chain = false } → ((p : Piece) → Counts h p → Counts start (behind p.ending nothing_read)) → Stands context h n p → Stands inner start n (behind p.ending nothing_read)
 stands_inside context inner h start n p e i s = record { parts = ap (λ z. z.parts) e ∙ s.parts; heights = i p s.heights; shallow = tt }
 
--- where it is one
+-- where the form is a chain
 pub chain_turn : (f : Form) (context inner : Context) (old new : Reader) (start later_heights : Heights) (before later : List Tree) → context.chain ≡ true → inner ≡ record { parts = context.parts; chain = false }
     → ((p : Piece) → Counts old.heights p → Counts start (behind p.ending nothing_read)) → Read f inner old.names old.rest.now start new before later
     → ((p x : Piece) → Counts old.heights p → Counts new.heights (behind p.ending x) → Counts later_heights (chained p x)) → ReadTurn f context old (record { rest = new.rest; names = new.names; heights = later_heights }) before later

@@ -5,7 +5,7 @@ use Rattle.c_model.specs.LeftWeights.{weight, IsWalkable}
 use Rattle.c_model.proofs.TotalWalk.{rule_walkable, then_walkable, or_walkable, when_walkable, maybe_walkable, many_walkable, loop_walkable}
 use Rattle.c_parser.specs.View.{form}
 use Rattle.c_parser.proofs.ReaderSteps.{then_told, first_told, left_told, right_told, take_told, chosen_told, other_told, none_told, skip_told, rule_told, rule_stops}
-use Rattle.c_parser.proofs.ReaderTurns.{unless_not, plain_turn, chain_turn, chain_stops, no_turn, one_turn, turn_stops, no_more_turns, one_again, again_stops, done_again, turn_shortens, again_shortens}
+use Rattle.c_parser.proofs.ReaderTurns.{unless_not, chain_turn, chain_stops, no_turn, one_turn, turn_stops, no_more_turns, one_again, again_stops, done_again, turn_shortens, again_shortens}
 use Rattle.c_parser.proofs.ReaderMeasures.{into_rule, into_first, into_second, into_or, into_when, into_maybe, into_turn, into_again, below, in_turn}
 use Rattle.c_parser.proofs.reader.+read.Goals as goal
 
