@@ -19,21 +19,21 @@ unfoldable pub mark : Bool → Bool → List Bool → List Bool
 mark true x cs = cs
 mark false x cs = x ∷ cs
 
-unfoldable pub open_choices : (k : Test → Bool) → {f : Form} {s new : Scopes} {ts rest : List Terminal} {xs : List Tree} → Derives parsed f s ts xs new rest → List Bool
-open_choices k (Derives.a_word e) = []
-open_choices k {f = rule n} (Derives.a_rule d) = open_choices (stays n) d
-open_choices k Derives.nothing = []
-open_choices k (Derives.both d e q) = open_choices k d ++ open_choices k e
-open_choices k (Derives.left d) = true ∷ open_choices k d
-open_choices k (Derives.right d) = false ∷ open_choices k d
-open_choices k Derives.skip = false ∷ []
-open_choices k (Derives.take d) = true ∷ open_choices k d
-open_choices k Derives.stop = false ∷ []
-open_choices k (Derives.turn d e q) = true ∷ open_choices k d ++ open_choices k e
-open_choices k {f = when p f g} (Derives.chosen a d) = mark (k p) true (open_choices k d)
-open_choices k {f = when p f g} (Derives.other a d) = mark (k p) false (open_choices k d)
-open_choices k {f = loop p f} (Derives.done a) = mark (k p) false []
-open_choices k {f = loop p f} (Derives.again a d e q) = mark (k p) true (open_choices k d ++ open_choices k e)
+unfoldable pub open_choices : {f : Form} {s new : Scopes} {ts rest : List Terminal} {xs : List Tree} → Derives parsed f s ts xs new rest → List Bool
+open_choices (Derives.a_word e) = []
+open_choices {f = rule n} (Derives.a_rule d) = open_choices d
+open_choices Derives.nothing = []
+open_choices (Derives.both d e q) = open_choices d ++ open_choices e
+open_choices (Derives.left d) = true ∷ open_choices d
+open_choices (Derives.right d) = false ∷ open_choices d
+open_choices Derives.skip = false ∷ []
+open_choices (Derives.take d) = true ∷ open_choices d
+open_choices Derives.stop = false ∷ []
+open_choices (Derives.turn d e q) = true ∷ open_choices d ++ open_choices e
+open_choices {f = when p f g} (Derives.chosen a d) = mark (stays p) true (open_choices d)
+open_choices {f = when p f g} (Derives.other a d) = mark (stays p) false (open_choices d)
+open_choices {f = loop p f} (Derives.done a) = mark (stays p) false []
+open_choices {f = loop p f} (Derives.again a d e q) = mark (stays p) true (open_choices d ++ open_choices e)
 
 in_rule : (n : Rule) {s new : Scopes} {ts rest : List Terminal} {xs : List Tree} {cs : List Bool} → IsTaking opened (open_table n) s ts xs new rest cs → IsTaking opened (rule n) s ts (opened.node n xs ∷ []) (opened.close n new) rest cs
 unfolding choices
@@ -94,19 +94,19 @@ unfolding choices
 in_turn d e q = record { is = Derives.turn d.is e.is q; takes = rw (d.takes, e.takes) refl }
 
 -- the open table derives it, by these choices
-pub opened_of : (k : Test → Bool) → {f : Form} {s new : Scopes} {ts rest : List Terminal} {xs : List Tree} → (d : Derives parsed f s ts xs new rest) → IsTaking opened (opens k f) s ts xs new rest (open_choices k d)
+pub opened_of : {f : Form} {s new : Scopes} {ts rest : List Terminal} {xs : List Tree} → (d : Derives parsed f s ts xs new rest) → IsTaking opened (opens f) s ts xs new rest (open_choices d)
 unfolding open_choices opens choices
-opened_of k (Derives.a_word e) = record { is = Derives.a_word e; takes = refl }
-opened_of k {f = rule n} {s = s} {ts = ts} (Derives.a_rule {new = mid} {rest = rest} {xs = xs} d) = in_rule n (subst (λ z. IsTaking opened z s ts xs mid rest (open_choices (stays n) d)) (open_form n) (opened_of (stays n) d))
-opened_of k Derives.nothing = record { is = Derives.nothing; takes = refl }
-opened_of k (Derives.both d e q) = in_both (opened_of k d) (opened_of k e) q
-opened_of k (Derives.left d) = in_left (opened_of k d)
-opened_of k (Derives.right d) = in_right (opened_of k d)
-opened_of k Derives.skip = record { is = Derives.skip; takes = refl }
-opened_of k (Derives.take d) = in_take (opened_of k d)
-opened_of k Derives.stop = record { is = Derives.stop; takes = refl }
-opened_of k (Derives.turn d e q) = in_turn (opened_of k d) (opened_of k e) q
-opened_of k {f = when p f g} (Derives.chosen a d) = in_chosen (k p) p _ _ a (opened_of k d)
-opened_of k {f = when p f g} (Derives.other a d) = in_other (k p) p _ _ a (opened_of k d)
-opened_of k {f = loop p f} (Derives.done a) = in_done (k p) p _ a
-opened_of k {f = loop p f} (Derives.again a d e q) = in_again (k p) p _ a (opened_of k d) (opened_of k e) q
+opened_of (Derives.a_word e) = record { is = Derives.a_word e; takes = refl }
+opened_of {f = rule n} {s = s} {ts = ts} (Derives.a_rule {new = mid} {rest = rest} {xs = xs} d) = in_rule n (subst (λ z. IsTaking opened z s ts xs mid rest (open_choices d)) (open_form n) (opened_of d))
+opened_of Derives.nothing = record { is = Derives.nothing; takes = refl }
+opened_of (Derives.both d e q) = in_both (opened_of d) (opened_of e) q
+opened_of (Derives.left d) = in_left (opened_of d)
+opened_of (Derives.right d) = in_right (opened_of d)
+opened_of Derives.skip = record { is = Derives.skip; takes = refl }
+opened_of (Derives.take d) = in_take (opened_of d)
+opened_of Derives.stop = record { is = Derives.stop; takes = refl }
+opened_of (Derives.turn d e q) = in_turn (opened_of d) (opened_of e) q
+opened_of {f = when p f g} (Derives.chosen a d) = in_chosen (stays p) p _ _ a (opened_of d)
+opened_of {f = when p f g} (Derives.other a d) = in_other (stays p) p _ _ a (opened_of d)
+opened_of {f = loop p f} (Derives.done a) = in_done (stays p) p _ a
+opened_of {f = loop p f} (Derives.again a d e q) = in_again (stays p) p _ a (opened_of d) (opened_of e) q

@@ -17,14 +17,14 @@ use Rattle.c_model.proofs.OpenFlows.{flows}
 use Rattle.c_model.proofs.OpenSuffixes.{suffixed}
 use Rattle.c_model.proofs.RegainForms.{or_first, or_second, when_first, when_second, maybe_part, many_turn, loop_turn}
 
--- the tests that stay in a production
-unfoldable pub stays : Rule → Test → Bool
-stays n test.HasParameters = true
-stays n test.ElseAhead = true
-stays n test.TypeAhead = true
-stays n test.BraceAhead = true
-stays n test.EnumeratorsAhead = true
-stays n _ = false
+-- the tests that stay
+unfoldable pub stays : Test → Bool
+stays test.HasParameters = true
+stays test.ElseAhead = true
+stays test.TypeAhead = true
+stays test.BraceAhead = true
+stays test.EnumeratorsAhead = true
+stays _ = false
 
 unfoldable pub opens_when : Bool → Test → Form → Form → Form
 opens_when true p f g = when p f g
@@ -35,18 +35,18 @@ opens_loop true p f = loop p f
 opens_loop false p f = many f
 
 -- the form with the tests that stay
-unfoldable pub opens : (Test → Bool) → Form → Form
-opens k (word ks a) = word ks a
-opens k (rule n) = rule n
-opens k empty = empty
-opens k (f then g) = opens k f then opens k g
-opens k (f or g) = opens k f or opens k g
-opens k (maybe f) = maybe (opens k f)
-opens k (many f) = many (opens k f)
-opens k (when p f g) = opens_when (k p) p (opens k f) (opens k g)
-opens k (loop p f) = opens_loop (k p) p (opens k f)
+unfoldable pub opens : Form → Form
+opens (word ks a) = word ks a
+opens (rule n) = rule n
+opens empty = empty
+opens (f then g) = opens f then opens g
+opens (f or g) = opens f or opens g
+opens (maybe f) = maybe (opens f)
+opens (many f) = many (opens f)
+opens (when p f g) = opens_when (stays p) p (opens f) (opens g)
+opens (loop p f) = opens_loop (stays p) p (opens f)
 
-pub open_form : (n : Rule) → opens (stays n) (table n) ≡ open_table n
+pub open_form : (n : Rule) → opens (table n) ≡ open_table n
 unfolding opens opens_when opens_loop either stays table open_table grammar
 open_form r.Unit = refl
 open_form r.External = refl
@@ -204,30 +204,30 @@ unfolding nullable opens_loop
 nullable_loop true p f = refl
 nullable_loop false p f = refl
 
-pub same_nullable : (k : Test → Bool) (f : Form) → nullable tables (opens k f) ≡ nullable tables f
+pub same_nullable : (f : Form) → nullable tables (opens f) ≡ nullable tables f
 unfolding opens nullable
-same_nullable k (word ks a) = refl
-same_nullable k (rule n) = refl
-same_nullable k empty = refl
-same_nullable k (f then g) = rw (same_nullable k f, same_nullable k g) refl
-same_nullable k (f or g) = rw (same_nullable k f, same_nullable k g) refl
-same_nullable k (maybe f) = refl
-same_nullable k (many f) = refl
-same_nullable k (when p f g) = rw (nullable_when (k p) p (opens k f) (opens k g), same_nullable k f, same_nullable k g) refl
-same_nullable k (loop p f) = nullable_loop (k p) p (opens k f)
+same_nullable (word ks a) = refl
+same_nullable (rule n) = refl
+same_nullable empty = refl
+same_nullable (f then g) = rw (same_nullable f, same_nullable g) refl
+same_nullable (f or g) = rw (same_nullable f, same_nullable g) refl
+same_nullable (maybe f) = refl
+same_nullable (many f) = refl
+same_nullable (when p f g) = rw (nullable_when (stays p) p (opens f) (opens g), same_nullable f, same_nullable g) refl
+same_nullable (loop p f) = nullable_loop (stays p) p (opens f)
 
-pub same_first : (k : Test → Bool) (f : Form) → first tables (opens k f) ≡ first tables f
+pub same_first : (f : Form) → first tables (opens f) ≡ first tables f
 unfolding opens first
-same_first k (word ks a) = refl
-same_first k (rule n) = refl
-same_first k empty = refl
-same_first k (f then g) = rw (same_first k f, same_first k g, same_nullable k f) refl
-same_first k (f or g) = rw (same_first k f, same_first k g) refl
-same_first k (maybe f) = same_first k f
-same_first k (many f) = same_first k f
-same_first k (when p f g) = rw (first_when (k p) p (opens k f) (opens k g), same_first k f, same_first k g) refl
-same_first k (loop p f) = rw (first_loop (k p) p (opens k f)) (same_first k f)
+same_first (word ks a) = refl
+same_first (rule n) = refl
+same_first empty = refl
+same_first (f then g) = rw (same_first f, same_first g, same_nullable f) refl
+same_first (f or g) = rw (same_first f, same_first g) refl
+same_first (maybe f) = same_first f
+same_first (many f) = same_first f
+same_first (when p f g) = rw (first_when (stays p) p (opens f) (opens g), same_first f, same_first g) refl
+same_first (loop p f) = rw (first_loop (stays p) p (opens f)) (same_first f)
 
-pub same_leads : (k : Test → Bool) (f : Form) (F : List ℕ) → leads tables (opens k f) F ≡ leads tables f F
+pub same_leads : (f : Form) (F : List ℕ) → leads tables (opens f) F ≡ leads tables f F
 unfolding leads
-same_leads k f F = rw (same_first k f, same_nullable k f) refl
+same_leads f F = rw (same_first f, same_nullable f) refl

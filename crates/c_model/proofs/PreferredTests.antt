@@ -47,28 +47,28 @@ pub record IsTaken (p : Test) (f : Form) (b c : Bool) : Type 0 where
   pub holds : (s new : Scopes) (ts rest : List Terminal) (xs : List Tree) → Clear b s → Parameter c s → Derives parsed f s ts xs new rest → passes p s ts ≡ true
 
 -- no test is left out of the form
-unfoldable pub plain : (Test → Bool) → Form → Bool
-plain k (word ks a) = true
-plain k (rule n) = true
-plain k empty = true
-plain k (f then g) = plain k f && plain k g
-plain k (f or g) = plain k f && plain k g
-plain k (maybe f) = plain k f
-plain k (many f) = plain k f
-plain k (when p f g) = k p && (plain k f && plain k g)
-plain k (loop p f) = k p && plain k f
+unfoldable pub plain : Form → Bool
+plain (word ks a) = true
+plain (rule n) = true
+plain empty = true
+plain (f then g) = plain f && plain g
+plain (f or g) = plain f && plain g
+plain (maybe f) = plain f
+plain (many f) = plain f
+plain (when p f g) = stays p && (plain f && plain g)
+plain (loop p f) = stays p && plain f
 
 -- each test that is left out of the form holds wherever its first alternative derives what comes; no bracket is held open
 -- before the form where b says so
-pub data IsTested : (Test → Bool) → Form → Bool → Bool → Type 0 where
-  plainly : {k : Test → Bool} {f : Form} {b c : Bool} → plain k f ≡ true → IsTested k f b c
-  in_then : {k : Test → Bool} {f g : Form} {b c : Bool} → IsTested k f b c → IsTested k g (clear (opens k f) b) (gives_parameter f) → IsTested k (f then g) b c
-  in_or : {k : Test → Bool} {f g : Form} {b c : Bool} → IsTested k f b c → IsTested k g b c → IsTested k (f or g) b c
-  in_maybe : {k : Test → Bool} {f : Form} {b c : Bool} → IsTested k f b c → IsTested k (maybe f) b c
-  in_many : {k : Test → Bool} {f : Form} {b c : Bool} → IsTested k f b false → IsTested k (many f) b c
-  kept_when : {k : Test → Bool} {p : Test} {f g : Form} {b c : Bool} → k p ≡ true → IsTested k f b c → IsTested k g b c → IsTested k (when p f g) b c
-  open_when : {k : Test → Bool} {p : Test} {f g : Form} {b c : Bool} → ends_open (opens k f) ≡ false → IsTaken p (opens k f) b c → IsTested k f b c → IsTested k g b c → IsTested k (when p f g) b c
-  open_loop : {k : Test → Bool} {p : Test} {f : Form} {b c : Bool} → ends_open (opens k f) ≡ false → IsTaken p (opens k f) b false → IsTested k f b false → IsTested k (loop p f) b c
+pub data IsTested : Form → Bool → Bool → Type 0 where
+  plainly : {f : Form} {b c : Bool} → plain f ≡ true → IsTested f b c
+  in_then : {f g : Form} {b c : Bool} → IsTested f b c → IsTested g (clear (opens f) b) (gives_parameter f) → IsTested (f then g) b c
+  in_or : {f g : Form} {b c : Bool} → IsTested f b c → IsTested g b c → IsTested (f or g) b c
+  in_maybe : {f : Form} {b c : Bool} → IsTested f b c → IsTested (maybe f) b c
+  in_many : {f : Form} {b c : Bool} → IsTested f b false → IsTested (many f) b c
+  kept_when : {p : Test} {f g : Form} {b c : Bool} → stays p ≡ true → IsTested f b c → IsTested g b c → IsTested (when p f g) b c
+  open_when : {p : Test} {f g : Form} {b c : Bool} → ends_open (opens f) ≡ false → IsTaken p (opens f) b c → IsTested f b c → IsTested g b c → IsTested (when p f g) b c
+  open_loop : {p : Test} {f : Form} {b c : Bool} → ends_open (opens f) ≡ false → IsTaken p (opens f) b false → IsTested f b false → IsTested (loop p f) b c
 
 function_taken : (c : Bool) → IsTaken test.FunctionAhead (rule r.Function) true c
 unfolding table hollow
@@ -152,7 +152,7 @@ parenthesized_taken b c = record { holds = λ s new ts rest xs b p d. by d }
     by {s = s} (Derives.both (Derives.a_word {t = t} {ts = us} e) (Derives.both d c q) p) = no_type s t us (begins_with refl d)
 
 -- of each production
-pub tested : (n : Rule) → IsTested (stays n) (table n) (not (is_balanced n)) false
+pub tested : (n : Rule) → IsTested (table n) (not (is_balanced n)) false
 unfolding plain opens opens_when opens_loop stays table clear holds is_balanced gives_parameter within mem ends_open is_suffix
 tested r.Unit = IsTested.plainly refl
 tested r.External = IsTested.open_when refl (function_taken false) (IsTested.plainly refl) (IsTested.plainly refl)

@@ -32,182 +32,182 @@ use Rattle.c_model.proofs.PreferredTests.{Parameter, gives_parameter, IsTaken, p
 use Rattle.c_model.proofs.Compared.{Compared, itself, retaken, marked, closed, joined, choose_first, choose_second, choose_done, choose_again}
 
 -- the parts of a form with its tests
-tested_first : {k : Test → Bool} {f g : Form} {b c : Bool} → IsTested k (f then g) b c → IsTested k f b c
+tested_first : {f g : Form} {b c : Bool} → IsTested (f then g) b c → IsTested f b c
 unfolding plain
-tested_first {k = k} {g = g} (IsTested.plainly q) = IsTested.plainly (and_left _ (plain k g) q)
+tested_first {g = g} (IsTested.plainly q) = IsTested.plainly (and_left _ (plain g) q)
 tested_first (IsTested.in_then t u) = t
 
-tested_second : {k : Test → Bool} {f g : Form} {b c : Bool} → IsTested k (f then g) b c → IsTested k g (clear (opens k f) b) (gives_parameter f)
+tested_second : {f g : Form} {b c : Bool} → IsTested (f then g) b c → IsTested g (clear (opens f) b) (gives_parameter f)
 unfolding plain
-tested_second {k = k} {f = f} (IsTested.plainly q) = IsTested.plainly (and_right (plain k f) _ q)
+tested_second {f = f} (IsTested.plainly q) = IsTested.plainly (and_right (plain f) _ q)
 tested_second (IsTested.in_then t u) = u
 
-or_left : {k : Test → Bool} {f g : Form} {b c : Bool} → IsTested k (f or g) b c → IsTested k f b c
+or_left : {f g : Form} {b c : Bool} → IsTested (f or g) b c → IsTested f b c
 unfolding plain
-or_left {k = k} {g = g} (IsTested.plainly q) = IsTested.plainly (and_left _ (plain k g) q)
+or_left {g = g} (IsTested.plainly q) = IsTested.plainly (and_left _ (plain g) q)
 or_left (IsTested.in_or t u) = t
 
-or_right : {k : Test → Bool} {f g : Form} {b c : Bool} → IsTested k (f or g) b c → IsTested k g b c
+or_right : {f g : Form} {b c : Bool} → IsTested (f or g) b c → IsTested g b c
 unfolding plain
-or_right {k = k} {f = f} (IsTested.plainly q) = IsTested.plainly (and_right (plain k f) _ q)
+or_right {f = f} (IsTested.plainly q) = IsTested.plainly (and_right (plain f) _ q)
 or_right (IsTested.in_or t u) = u
 
-of_maybe : {k : Test → Bool} {f : Form} {b c : Bool} → IsTested k (maybe f) b c → IsTested k f b c
+of_maybe : {f : Form} {b c : Bool} → IsTested (maybe f) b c → IsTested f b c
 unfolding plain
 of_maybe (IsTested.plainly q) = IsTested.plainly q
 of_maybe (IsTested.in_maybe t) = t
 
-of_many : {k : Test → Bool} {f : Form} {b c : Bool} → IsTested k (many f) b c → IsTested k f b false
+of_many : {f : Form} {b c : Bool} → IsTested (many f) b c → IsTested f b false
 unfolding plain
 of_many (IsTested.plainly q) = IsTested.plainly q
 of_many (IsTested.in_many t) = t
 
-many_again : {k : Test → Bool} {f : Form} {b c : Bool} → IsTested k (many f) b c → IsTested k (many f) b false
+many_again : {f : Form} {b c : Bool} → IsTested (many f) b c → IsTested (many f) b false
 many_again (IsTested.plainly q) = IsTested.plainly q
 many_again (IsTested.in_many t) = IsTested.in_many t
 
-when_first : {k : Test → Bool} {p : Test} {f g : Form} {b c : Bool} → IsTested k (when p f g) b c → IsTested k f b c
+when_first : {p : Test} {f g : Form} {b c : Bool} → IsTested (when p f g) b c → IsTested f b c
 unfolding plain
-when_first {k = k} {p = p} {g = g} (IsTested.plainly q) = IsTested.plainly (and_left _ (plain k g) (and_right (k p) _ q))
+when_first {p = p} {g = g} (IsTested.plainly q) = IsTested.plainly (and_left _ (plain g) (and_right (stays p) _ q))
 when_first (IsTested.kept_when e t u) = t
 when_first (IsTested.open_when n e t u) = t
 
-when_second : {k : Test → Bool} {p : Test} {f g : Form} {b c : Bool} → IsTested k (when p f g) b c → IsTested k g b c
+when_second : {p : Test} {f g : Form} {b c : Bool} → IsTested (when p f g) b c → IsTested g b c
 unfolding plain
-when_second {k = k} {p = p} {f = f} (IsTested.plainly q) = IsTested.plainly (and_right (plain k f) _ (and_right (k p) _ q))
+when_second {p = p} {f = f} (IsTested.plainly q) = IsTested.plainly (and_right (plain f) _ (and_right (stays p) _ q))
 when_second (IsTested.kept_when e t u) = u
 when_second (IsTested.open_when n e t u) = u
 
-when_taken : {k : Test → Bool} {p : Test} {f g : Form} {b c : Bool} → IsTested k (when p f g) b c → k p ≡ false → IsTaken p (opens k f) b c
+when_taken : {p : Test} {f g : Form} {b c : Bool} → IsTested (when p f g) b c → stays p ≡ false → IsTaken p (opens f) b c
 unfolding plain
-when_taken {k = k} {p = p} {f = f} {g = g} (IsTested.plainly q) h = absurd (clash (k p) (and_left (k p) (plain k f && plain k g) q) h)
-when_taken {k = k} {p = p} (IsTested.kept_when e t u) h = absurd (clash (k p) e h)
+when_taken {p = p} {f = f} {g = g} (IsTested.plainly q) h = absurd (clash (stays p) (and_left (stays p) (plain f && plain g) q) h)
+when_taken {p = p} (IsTested.kept_when e t u) h = absurd (clash (stays p) e h)
 when_taken (IsTested.open_when n e t u) h = e
 
-when_closed : {k : Test → Bool} {p : Test} {f g : Form} {b c : Bool} → IsTested k (when p f g) b c → k p ≡ false → ends_open (opens k f) ≡ false
+when_closed : {p : Test} {f g : Form} {b c : Bool} → IsTested (when p f g) b c → stays p ≡ false → ends_open (opens f) ≡ false
 unfolding plain
-when_closed {k = k} {p = p} {f = f} {g = g} (IsTested.plainly q) h = absurd (clash (k p) (and_left (k p) (plain k f && plain k g) q) h)
-when_closed {k = k} {p = p} (IsTested.kept_when e t u) h = absurd (clash (k p) e h)
+when_closed {p = p} {f = f} {g = g} (IsTested.plainly q) h = absurd (clash (stays p) (and_left (stays p) (plain f && plain g) q) h)
+when_closed {p = p} (IsTested.kept_when e t u) h = absurd (clash (stays p) e h)
 when_closed (IsTested.open_when n e t u) h = n
 
-of_loop : {k : Test → Bool} {p : Test} {f : Form} {b c : Bool} → IsTested k (loop p f) b c → IsTested k f b false
+of_loop : {p : Test} {f : Form} {b c : Bool} → IsTested (loop p f) b c → IsTested f b false
 unfolding plain
-of_loop {k = k} {p = p} (IsTested.plainly q) = IsTested.plainly (and_right (k p) _ q)
+of_loop {p = p} (IsTested.plainly q) = IsTested.plainly (and_right (stays p) _ q)
 of_loop (IsTested.open_loop n e t) = t
 
-loop_again : {k : Test → Bool} {p : Test} {f : Form} {b c : Bool} → IsTested k (loop p f) b c → IsTested k (loop p f) b false
+loop_again : {p : Test} {f : Form} {b c : Bool} → IsTested (loop p f) b c → IsTested (loop p f) b false
 loop_again (IsTested.plainly q) = IsTested.plainly q
 loop_again (IsTested.open_loop n e t) = IsTested.open_loop n e t
 
-loop_taken : {k : Test → Bool} {p : Test} {f : Form} {b c : Bool} → IsTested k (loop p f) b c → k p ≡ false → IsTaken p (opens k f) b false
+loop_taken : {p : Test} {f : Form} {b c : Bool} → IsTested (loop p f) b c → stays p ≡ false → IsTaken p (opens f) b false
 unfolding plain
-loop_taken {k = k} {p = p} {f = f} (IsTested.plainly q) h = absurd (clash (k p) (and_left (k p) (plain k f) q) h)
+loop_taken {p = p} {f = f} (IsTested.plainly q) h = absurd (clash (stays p) (and_left (stays p) (plain f) q) h)
 loop_taken (IsTested.open_loop n e t) h = e
 
-loop_closed : {k : Test → Bool} {p : Test} {f : Form} {b c : Bool} → IsTested k (loop p f) b c → k p ≡ false → ends_open (opens k f) ≡ false
+loop_closed : {p : Test} {f : Form} {b c : Bool} → IsTested (loop p f) b c → stays p ≡ false → ends_open (opens f) ≡ false
 unfolding plain
-loop_closed {k = k} {p = p} {f = f} (IsTested.plainly q) h = absurd (clash (k p) (and_left (k p) (plain k f) q) h)
+loop_closed {p = p} {f = f} (IsTested.plainly q) h = absurd (clash (stays p) (and_left (stays p) (plain f) q) h)
 loop_closed (IsTested.open_loop n e t) h = n
 
 -- a form of the parser's table where F may follow it
-record IsReady (k : Test → Bool) (f : Form) (F : List ℕ) (b c : Bool) : Type 0 where
+record IsReady (f : Form) (F : List ℕ) (b c : Bool) : Type 0 where
   pub sets : decided tables f F ≡ true
-  pub follow : flows (opens k f) F b ≡ true
-  pub suffixes : suffixed (opens k f) F ≡ true
-  pub tests : IsTested k f b c
+  pub follow : flows (opens f) F b ≡ true
+  pub suffixes : suffixed (opens f) F ≡ true
+  pub tests : IsTested f b c
 
-to_first : {k : Test → Bool} {f g : Form} {F : List ℕ} {b c : Bool} → IsReady k (f then g) F b c → IsReady k f (leads tables g F) b c
+to_first : {f g : Form} {F : List ℕ} {b c : Bool} → IsReady (f then g) F b c → IsReady f (leads tables g F) b c
 unfolding decided flows opens
-to_first {k = k} {f = f} {g = g} {F = F} {b = b} w = record {
+to_first {f = f} {g = g} {F = F} {b = b} w = record {
   sets = and_left _ (decided tables g F) w.sets;
-  follow = subst (λ z. flows (opens k f) z b ≡ true) (same_leads k g F) (and_left _ (flows (opens k g) F (clear (opens k f) b)) w.follow);
-  suffixes = subst (λ z. suffixed (opens k f) z ≡ true) (same_leads k g F) (then_first (opens k f) (opens k g) F w.suffixes);
+  follow = subst (λ z. flows (opens f) z b ≡ true) (same_leads g F) (and_left _ (flows (opens g) F (clear (opens f) b)) w.follow);
+  suffixes = subst (λ z. suffixed (opens f) z ≡ true) (same_leads g F) (then_first (opens f) (opens g) F w.suffixes);
   tests = tested_first w.tests;
 }
 
-to_second : {k : Test → Bool} {f g : Form} {F : List ℕ} {b c : Bool} → IsReady k (f then g) F b c → IsReady k g F (clear (opens k f) b) (gives_parameter f)
+to_second : {f g : Form} {F : List ℕ} {b c : Bool} → IsReady (f then g) F b c → IsReady g F (clear (opens f) b) (gives_parameter f)
 unfolding decided flows opens
-to_second {k = k} {f = f} {g = g} {F = F} {b = b} w = record {
+to_second {f = f} {g = g} {F = F} {b = b} w = record {
   sets = and_right (decided tables f (leads tables g F)) _ w.sets;
-  follow = and_right (flows (opens k f) (leads tables (opens k g) F) b) _ w.follow;
-  suffixes = then_second (opens k f) (opens k g) F w.suffixes;
+  follow = and_right (flows (opens f) (leads tables (opens g) F) b) _ w.follow;
+  suffixes = then_second (opens f) (opens g) F w.suffixes;
   tests = tested_second w.tests;
 }
 
-to_left : {k : Test → Bool} {f g : Form} {F : List ℕ} {b c : Bool} → IsReady k (f or g) F b c → IsReady k f F b c
+to_left : {f g : Form} {F : List ℕ} {b c : Bool} → IsReady (f or g) F b c → IsReady f F b c
 unfolding decided flows opens
-to_left {k = k} {f = f} {g = g} {F = F} {b = b} w = record {
+to_left {f = f} {g = g} {F = F} {b = b} w = record {
   sets = and_right _ _ (and_left _ (decided tables g F) w.sets);
-  follow = and_left _ (flows (opens k g) F b) w.follow;
-  suffixes = or_first (opens k f) (opens k g) F w.suffixes;
+  follow = and_left _ (flows (opens g) F b) w.follow;
+  suffixes = or_first (opens f) (opens g) F w.suffixes;
   tests = or_left w.tests;
 }
 
-to_right : {k : Test → Bool} {f g : Form} {F : List ℕ} {b c : Bool} → IsReady k (f or g) F b c → IsReady k g F b c
+to_right : {f g : Form} {F : List ℕ} {b c : Bool} → IsReady (f or g) F b c → IsReady g F b c
 unfolding decided flows opens
-to_right {k = k} {f = f} {g = g} {F = F} {b = b} w = record {
+to_right {f = f} {g = g} {F = F} {b = b} w = record {
   sets = and_right (apart tables (leads tables f F) (leads tables g F) && decided tables f F) _ w.sets;
-  follow = and_right (flows (opens k f) F b) _ w.follow;
-  suffixes = or_second (opens k f) (opens k g) F w.suffixes;
+  follow = and_right (flows (opens f) F b) _ w.follow;
+  suffixes = or_second (opens f) (opens g) F w.suffixes;
   tests = or_right w.tests;
 }
 
-to_maybe : {k : Test → Bool} {f : Form} {F : List ℕ} {b c : Bool} → IsReady k (maybe f) F b c → IsReady k f F b c
+to_maybe : {f : Form} {F : List ℕ} {b c : Bool} → IsReady (maybe f) F b c → IsReady f F b c
 unfolding decided flows opens
-to_maybe {k = k} {f = f} {F = F} {b = b} w = record {
+to_maybe {f = f} {F = F} {b = b} w = record {
   sets = and_right (not (nullable tables f) && apart tables (first tables f) F) _ w.sets;
   follow = w.follow;
-  suffixes = maybe_part (opens k f) F w.suffixes;
+  suffixes = maybe_part (opens f) F w.suffixes;
   tests = of_maybe w.tests;
 }
 
-to_many : {k : Test → Bool} {f : Form} {F : List ℕ} {b c : Bool} → IsReady k (many f) F b c → IsReady k f (first tables f ++ F) b false
+to_many : {f : Form} {F : List ℕ} {b c : Bool} → IsReady (many f) F b c → IsReady f (first tables f ++ F) b false
 unfolding decided flows opens
-to_many {k = k} {f = f} {F = F} {b = b} w = record {
+to_many {f = f} {F = F} {b = b} w = record {
   sets = and_right (not (nullable tables f) && apart tables (first tables f) F) _ w.sets;
-  follow = subst (λ z. flows (opens k f) (z ++ F) b ≡ true) (same_first k f) (and_right (not b || clear (opens k f) b) _ w.follow);
-  suffixes = subst (λ z. suffixed (opens k f) (z ++ F) ≡ true) (same_first k f) (many_turn (opens k f) F w.suffixes);
+  follow = subst (λ z. flows (opens f) (z ++ F) b ≡ true) (same_first f) (and_right (not b || clear (opens f) b) _ w.follow);
+  suffixes = subst (λ z. suffixed (opens f) (z ++ F) ≡ true) (same_first f) (many_turn (opens f) F w.suffixes);
   tests = of_many w.tests;
 }
 
-to_more : {k : Test → Bool} {f : Form} {F : List ℕ} {b c : Bool} → IsReady k (many f) F b c → IsReady k (many f) F b false
+to_more : {f : Form} {F : List ℕ} {b c : Bool} → IsReady (many f) F b c → IsReady (many f) F b false
 to_more w = record { sets = w.sets; follow = w.follow; suffixes = w.suffixes; tests = many_again w.tests }
 
-to_chosen : {k : Test → Bool} {p : Test} {f g : Form} {F : List ℕ} {b c : Bool} → IsReady k (when p f g) F b c → IsReady k f F b c
+to_chosen : {p : Test} {f g : Form} {F : List ℕ} {b c : Bool} → IsReady (when p f g) F b c → IsReady f F b c
 unfolding decided opens
-to_chosen {k = k} {p = p} {f = f} {g = g} {F = F} {b = b} w = record {
+to_chosen {p = p} {f = f} {g = g} {F = F} {b = b} w = record {
   sets = and_left _ (decided tables g F) w.sets;
-  follow = and_left (flows (opens k f) F b) (flows (opens k g) F b) (sym (flows_when (k p) p (opens k f) (opens k g) F b) ∙ w.follow);
-  suffixes = suffixed_chosen (k p) p (opens k f) (opens k g) F w.suffixes;
+  follow = and_left (flows (opens f) F b) (flows (opens g) F b) (sym (flows_when (stays p) p (opens f) (opens g) F b) ∙ w.follow);
+  suffixes = suffixed_chosen (stays p) p (opens f) (opens g) F w.suffixes;
   tests = when_first w.tests;
 }
 
-to_other : {k : Test → Bool} {p : Test} {f g : Form} {F : List ℕ} {b c : Bool} → IsReady k (when p f g) F b c → IsReady k g F b c
+to_other : {p : Test} {f g : Form} {F : List ℕ} {b c : Bool} → IsReady (when p f g) F b c → IsReady g F b c
 unfolding decided opens
-to_other {k = k} {p = p} {f = f} {g = g} {F = F} {b = b} w = record {
+to_other {p = p} {f = f} {g = g} {F = F} {b = b} w = record {
   sets = and_right (decided tables f F) _ w.sets;
-  follow = and_right (flows (opens k f) F b) (flows (opens k g) F b) (sym (flows_when (k p) p (opens k f) (opens k g) F b) ∙ w.follow);
-  suffixes = suffixed_other (k p) p (opens k f) (opens k g) F w.suffixes;
+  follow = and_right (flows (opens f) F b) (flows (opens g) F b) (sym (flows_when (stays p) p (opens f) (opens g) F b) ∙ w.follow);
+  suffixes = suffixed_other (stays p) p (opens f) (opens g) F w.suffixes;
   tests = when_second w.tests;
 }
 
-loop_flows : {k : Test → Bool} {p : Test} {f : Form} {F : List ℕ} {b c : Bool} → IsReady k (loop p f) F b c → ((not b || clear (opens k f) b) && flows (opens k f) (first tables (opens k f) ++ F) b) ≡ true
+loop_flows : {p : Test} {f : Form} {F : List ℕ} {b c : Bool} → IsReady (loop p f) F b c → ((not b || clear (opens f) b) && flows (opens f) (first tables (opens f) ++ F) b) ≡ true
 unfolding opens
-loop_flows {k = k} {p = p} {f = f} {F = F} {b = b} w = sym (flows_loop (k p) p (opens k f) F b) ∙ w.follow
+loop_flows {p = p} {f = f} {F = F} {b = b} w = sym (flows_loop (stays p) p (opens f) F b) ∙ w.follow
 
-to_loop : {k : Test → Bool} {p : Test} {f : Form} {F : List ℕ} {b c : Bool} → IsReady k (loop p f) F b c → IsReady k f (first tables f ++ F) b false
+to_loop : {p : Test} {f : Form} {F : List ℕ} {b c : Bool} → IsReady (loop p f) F b c → IsReady f (first tables f ++ F) b false
 unfolding decided opens
-to_loop {k = k} {p = p} {f = f} {F = F} {b = b} w = record {
+to_loop {p = p} {f = f} {F = F} {b = b} w = record {
   sets = and_right (not (nullable tables f)) _ w.sets;
-  follow = subst (λ z. flows (opens k f) (z ++ F) b ≡ true) (same_first k f) (and_right (not b || clear (opens k f) b) _ (loop_flows w));
-  suffixes = subst (λ z. suffixed (opens k f) (z ++ F) ≡ true) (same_first k f) (suffixed_turn (k p) p (opens k f) F w.suffixes);
+  follow = subst (λ z. flows (opens f) (z ++ F) b ≡ true) (same_first f) (and_right (not b || clear (opens f) b) _ (loop_flows w));
+  suffixes = subst (λ z. suffixed (opens f) (z ++ F) ≡ true) (same_first f) (suffixed_turn (stays p) p (opens f) F w.suffixes);
   tests = of_loop w.tests;
 }
 
-to_further : {k : Test → Bool} {p : Test} {f : Form} {F : List ℕ} {b c : Bool} → IsReady k (loop p f) F b c → IsReady k (loop p f) F b false
+to_further : {p : Test} {f : Form} {F : List ℕ} {b c : Bool} → IsReady (loop p f) F b c → IsReady (loop p f) F b false
 to_further w = record { sets = w.sets; follow = w.follow; suffixes = w.suffixes; tests = loop_again w.tests }
 
-of_rule : (n : Rule) → IsReady (stays n) (table n) (follows n) (not (is_balanced n)) false
+of_rule : (n : Rule) → IsReady (table n) (follows n) (not (is_balanced n)) false
 of_rule n = record {
   sets = within_rule tables parsed quiet checked n;
   follow = subst (λ z. flows z (follows n) (not (is_balanced n)) ≡ true) (sym (open_form n)) (flow n);
@@ -219,7 +219,7 @@ at_follow : (n : Rule) (F : List ℕ) (s : Scopes) (rest : List Terminal) → wi
 at_follow n F s rest w h = ahead_keeps tables parsed quiet checked n s rest (within_mem tables _ F (follows n) w h)
 
 -- what comes next where a form of the open table derives it
-regained : {k : Test → Bool} {f : Form} {F : List ℕ} {b c : Bool} {s new : Scopes} {ts rest : List Terminal} {xs : List Tree} → IsReady k f F b c → Clear b s → Derives opened (opens k f) s ts xs new rest → mem (ahead tables parsed new rest) F ≡ true → IsKept (opens k f) s ts new rest
+regained : {f : Form} {F : List ℕ} {b c : Bool} {s new : Scopes} {ts rest : List Terminal} {xs : List Tree} → IsReady f F b c → Clear b s → Derives opened (opens f) s ts xs new rest → mem (ahead tables parsed new rest) F ≡ true → IsKept (opens f) s ts new rest
 regained {F = F} {b = b} w x o h = regain each o F b w.follow w.suffixes x h
 
 kept_lead : (f : Form) (F : List ℕ) {s new : Scopes} {ts rest : List Terminal} → IsKept f s ts new rest → mem (ahead tables parsed new rest) F ≡ true → mem (ahead tables parsed s ts) (leads tables f F) ≡ true
@@ -227,8 +227,8 @@ unfolding leads
 kept_lead f F (IsKept.whole d) h = lead tables parsed quiet checked F d h
 kept_lead f F (IsKept.half i a m g) h = mem_left _ _ _ m
 
-open_lead : {k : Test → Bool} {f : Form} {F : List ℕ} {b c : Bool} {s new : Scopes} {ts rest : List Terminal} {xs : List Tree} → IsReady k f F b c → Clear b s → Derives opened (opens k f) s ts xs new rest → mem (ahead tables parsed new rest) F ≡ true → mem (ahead tables parsed s ts) (leads tables f F) ≡ true
-open_lead {k = k} {f = f} {F = F} {s = s} {ts = ts} w x o h = subst (λ z. mem (ahead tables parsed s ts) z ≡ true) (same_leads k f F) (kept_lead (opens k f) F (regained w x o h) h)
+open_lead : {f : Form} {F : List ℕ} {b c : Bool} {s new : Scopes} {ts rest : List Terminal} {xs : List Tree} → IsReady f F b c → Clear b s → Derives opened (opens f) s ts xs new rest → mem (ahead tables parsed new rest) F ≡ true → mem (ahead tables parsed s ts) (leads tables f F) ≡ true
+open_lead {f = f} {F = F} {s = s} {ts = ts} w x o h = subst (λ z. mem (ahead tables parsed s ts) z ≡ true) (same_leads f F) (kept_lead (opens f) F (regained w x o h) h)
 
 only_first : (f : Form) (F : List ℕ) (j : ℕ) → not (nullable tables f) ≡ true → mem j (leads tables f F) ≡ true → mem j (first tables f) ≡ true
 unfolding leads
@@ -260,64 +260,64 @@ given (loop p f) d e = absurd (cc)
 clear_at : (b : Bool) {s s' : Scopes} → s ≡ s' → Clear b s' → Clear b s
 clear_at b q x e = ap (λ z. z.brackets) q ∙ x e
 
-prefer : (k : Test → Bool) {f : Form} {s new new' : Scopes} {ts rest rest' : List Terminal} {xs ys : List Tree} → (d : Derives parsed f s ts xs new rest) → (o : Derives opened (opens k f) s ts ys new' rest')
-    → (F : List ℕ) (b c : Bool) → IsReady k f F b c → Clear b s → Parameter c s → mem (ahead tables parsed new rest) F ≡ true → mem (ahead tables parsed new' rest') F ≡ true
-    → Compared (open_choices k d) new rest (choices opened o) new' rest'
+prefer : {f : Form} {s new new' : Scopes} {ts rest rest' : List Terminal} {xs ys : List Tree} → (d : Derives parsed f s ts xs new rest) → (o : Derives opened (opens f) s ts ys new' rest')
+    → (F : List ℕ) (b c : Bool) → IsReady f F b c → Clear b s → Parameter c s → mem (ahead tables parsed new rest) F ≡ true → mem (ahead tables parsed new' rest') F ≡ true
+    → Compared (open_choices d) new rest (choices opened o) new' rest'
 unfolding opens open_choices choices decided flows leads first nullable
-prefer k (Derives.a_word e) (Derives.a_word e') F b c w x y h h' = Compared.alike refl refl refl
-prefer k {f = rule n} {s = s} {ts = ts} (Derives.a_rule {new = mid} {rest = rest} d) (Derives.a_rule {new = mid'} {rest = rest'} {xs = ys} o) F b c w x y h h' =
+prefer (Derives.a_word e) (Derives.a_word e') F b c w x y h h' = Compared.alike refl refl refl
+prefer {f = rule n} {s = s} {ts = ts} (Derives.a_rule {new = mid} {rest = rest} d) (Derives.a_rule {new = mid'} {rest = rest'} {xs = ys} o) F b c w x y h h' =
     let t = subst (λ z. IsTaking opened z s ts ys mid' rest' (choices opened o)) (sym (open_form n)) (itself o) in
-    closed n (retaken t.takes (prefer (stays n) d t.is (follows n) (not (is_balanced n)) false (of_rule n) (inner n F b s w.follow x) (no_parameter s) (at_follow n F mid rest w.sets h) (at_follow n F mid' rest' w.sets h')))
-prefer k Derives.nothing Derives.nothing F b c w x y h h' = Compared.alike refl refl refl
-prefer k {f = f then g} (Derives.both d d' q) (Derives.both {mid = mid'} o o' q') F b c w x y h h' =
-    let m = clear (opens k f) b in
+    closed n (retaken t.takes (prefer d t.is (follows n) (not (is_balanced n)) false (of_rule n) (inner n F b s w.follow x) (no_parameter s) (at_follow n F mid rest w.sets h) (at_follow n F mid' rest' w.sets h')))
+prefer Derives.nothing Derives.nothing F b c w x y h h' = Compared.alike refl refl refl
+prefer {f = f then g} (Derives.both d d' q) (Derives.both {mid = mid'} o o' q') F b c w x y h h' =
+    let m = clear (opens f) b in
     let x' : Clear m mid' = λ e. stays_clear o b x e in
-    joined (prefer k d o (leads tables g F) b c (to_first w) x y (lead tables parsed quiet checked F d' h) (open_lead (to_second w) x' o' h')) (λ p r.
+    joined (prefer d o (leads tables g F) b c (to_first w) x y (lead tables parsed quiet checked F d' h) (open_lead (to_second w) x' o' h')) (λ p r.
     let u = moved opened (sym p) (sym r) o' in
-    retaken u.takes (prefer k d' u.is F m (gives_parameter f) (to_second w) (clear_at m p x') (given f d) h h'))
-prefer k {f = f or g} (Derives.left d) (Derives.left o) F b c w x y h h' = marked true (prefer k d o F b c (to_left w) x y h h')
-prefer k {f = f or g} (Derives.left d) (Derives.right o) F b c w x y h h' = Compared.before tt
-prefer k {f = f or g} (Derives.right d) (Derives.left o) F b c w x y h h' = absurd (apart_mem tables _ (leads tables f F) (leads tables g F) (and_left _ (decided tables f F) (and_left _ (decided tables g F) w.sets)) (open_lead (to_left w) x o h') (lead tables parsed quiet checked F d h))
-prefer k {f = f or g} (Derives.right d) (Derives.right o) F b c w x y h h' = marked false (prefer k d o F b c (to_right w) x y h h')
-prefer k {f = maybe f} Derives.skip Derives.skip F b c w x y h h' = Compared.alike refl refl refl
-prefer k {f = maybe f} Derives.skip (Derives.take o) F b c w x y h h' =
+    retaken u.takes (prefer d' u.is F m (gives_parameter f) (to_second w) (clear_at m p x') (given f d) h h'))
+prefer {f = f or g} (Derives.left d) (Derives.left o) F b c w x y h h' = marked true (prefer d o F b c (to_left w) x y h h')
+prefer {f = f or g} (Derives.left d) (Derives.right o) F b c w x y h h' = Compared.before tt
+prefer {f = f or g} (Derives.right d) (Derives.left o) F b c w x y h h' = absurd (apart_mem tables _ (leads tables f F) (leads tables g F) (and_left _ (decided tables f F) (and_left _ (decided tables g F) w.sets)) (open_lead (to_left w) x o h') (lead tables parsed quiet checked F d h))
+prefer {f = f or g} (Derives.right d) (Derives.right o) F b c w x y h h' = marked false (prefer d o F b c (to_right w) x y h h')
+prefer {f = maybe f} Derives.skip Derives.skip F b c w x y h h' = Compared.alike refl refl refl
+prefer {f = maybe f} Derives.skip (Derives.take o) F b c w x y h h' =
     let n = and_left _ (decided tables f F) w.sets in
     absurd (apart_mem tables _ (first tables f) F (and_right (not (nullable tables f)) _ n) (only_first f F _ (and_left _ (apart tables (first tables f) F) n) (open_lead (to_maybe w) x o h')) h)
-prefer k {f = maybe f} (Derives.take d) Derives.skip F b c w x y h h' = Compared.before tt
-prefer k {f = maybe f} (Derives.take d) (Derives.take o) F b c w x y h h' = marked true (prefer k d o F b c (to_maybe w) x y h h')
-prefer k {f = many f} Derives.stop Derives.stop F b c w x y h h' = Compared.alike refl refl refl
-prefer k {f = many f} Derives.stop (Derives.turn {mid = mid'} o o' q') F b c w x y h h' =
+prefer {f = maybe f} (Derives.take d) Derives.skip F b c w x y h h' = Compared.before tt
+prefer {f = maybe f} (Derives.take d) (Derives.take o) F b c w x y h h' = marked true (prefer d o F b c (to_maybe w) x y h h')
+prefer {f = many f} Derives.stop Derives.stop F b c w x y h h' = Compared.alike refl refl refl
+prefer {f = many f} Derives.stop (Derives.turn {mid = mid'} o o' q') F b c w x y h h' =
     let n = and_left _ (decided tables f (first tables f ++ F)) w.sets in
-    let x' : Clear b mid' = λ e. stays_clear o b x (steady b _ (and_left _ (flows (opens k f) (first tables (opens k f) ++ F) b) w.follow) e) in
+    let x' : Clear b mid' = λ e. stays_clear o b x (steady b _ (and_left _ (flows (opens f) (first tables (opens f) ++ F) b) w.follow) e) in
     absurd (apart_mem tables _ (first tables f) F (and_right (not (nullable tables f)) _ n) (only_first f (first tables f ++ F) _ (and_left _ (apart tables (first tables f) F) n) (open_lead (to_many w) x o (open_lead w x' o' h'))) h)
-prefer k {f = many f} (Derives.turn d d' q) Derives.stop F b c w x y h h' = Compared.before tt
-prefer k {f = many f} {s = s} (Derives.turn {mid = mid} d d' q) (Derives.turn {mid = mid'} o o' q') F b c w x y h h' =
-    let x' : Clear b mid' = λ e. stays_clear o b x (steady b _ (and_left _ (flows (opens k f) (first tables (opens k f) ++ F) b) w.follow) e) in
-    marked true (joined (prefer k d o (first tables f ++ F) b false (to_many w) x (no_parameter s) (lead tables parsed quiet checked F d' h) (open_lead w x' o' h')) (λ p r.
+prefer {f = many f} (Derives.turn d d' q) Derives.stop F b c w x y h h' = Compared.before tt
+prefer {f = many f} {s = s} (Derives.turn {mid = mid} d d' q) (Derives.turn {mid = mid'} o o' q') F b c w x y h h' =
+    let x' : Clear b mid' = λ e. stays_clear o b x (steady b _ (and_left _ (flows (opens f) (first tables (opens f) ++ F) b) w.follow) e) in
+    marked true (joined (prefer d o (first tables f ++ F) b false (to_many w) x (no_parameter s) (lead tables parsed quiet checked F d' h) (open_lead w x' o' h')) (λ p r.
     let u = moved opened (sym p) (sym r) o' in
-    retaken u.takes (prefer k d' u.is F b false (to_more w) (clear_at b p x') (no_parameter mid) h h')))
-prefer k {f = when p f g} (Derives.chosen a d) o F b c w x y h h' = choose_first (k p) p (opens k f) (opens k g) a (λ o. prefer k d o F b c (to_chosen w) x y h h') o
-prefer k {f = when p f g} {s = s} {new' = new'} {ts = ts} {rest' = rest'} (Derives.other a d) o F b c w x y h h' =
-    choose_second (k p) p (opens k f) (opens k g) a (λ e o.
+    retaken u.takes (prefer d' u.is F b false (to_more w) (clear_at b p x') (no_parameter mid) h h')))
+prefer {f = when p f g} (Derives.chosen a d) o F b c w x y h h' = choose_first (stays p) p (opens f) (opens g) a (λ o. prefer d o F b c (to_chosen w) x y h h') o
+prefer {f = when p f g} {s = s} {new' = new'} {ts = ts} {rest' = rest'} (Derives.other a d) o F b c w x y h h' =
+    choose_second (stays p) p (opens f) (opens g) a (λ e o.
     let t = the_whole (when_closed w.tests e) (regained (to_chosen w) x o h') in
-    clash _ ((when_taken w.tests e).holds s new' ts rest' t.trees x y t.is) a) (λ o. prefer k d o F b c (to_other w) x y h h') o
-prefer k {f = loop p f} {s = s} {ts = ts} (Derives.done a) o F b c w x y h h' = choose_done (k p) p (opens k f) a (λ e mid' later' ys zs o o'.
-    let x' : Clear b mid' = λ e. stays_clear o b x (steady b _ (and_left _ (flows (opens k f) (first tables (opens k f) ++ F) b) (loop_flows w)) e) in
+    clash _ ((when_taken w.tests e).holds s new' ts rest' t.trees x y t.is) a) (λ o. prefer d o F b c (to_other w) x y h h') o
+prefer {f = loop p f} {s = s} {ts = ts} (Derives.done a) o F b c w x y h h' = choose_done (stays p) p (opens f) a (λ e mid' later' ys zs o o'.
+    let x' : Clear b mid' = λ e. stays_clear o b x (steady b _ (and_left _ (flows (opens f) (first tables (opens f) ++ F) b) (loop_flows w)) e) in
     let t = the_whole (loop_closed w.tests e) (regained (to_loop w) x o (open_lead w x' o' h')) in
     clash _ ((loop_taken w.tests e).holds s mid' ts later' t.trees x (no_parameter s) t.is) a) o
-prefer k {f = loop p f} {s = s} (Derives.again {mid = mid} a d d' q) o F b c w x y h h' = choose_again (k p) p (opens k f) a (λ mid' later' ys zs o o'.
-    let x' : Clear b mid' = λ e. stays_clear o b x (steady b _ (and_left _ (flows (opens k f) (first tables (opens k f) ++ F) b) (loop_flows w)) e) in
-    joined (prefer k d o (first tables f ++ F) b false (to_loop w) x (no_parameter s) (lead tables parsed quiet checked F d' h) (open_lead w x' o' h')) (λ p r.
+prefer {f = loop p f} {s = s} (Derives.again {mid = mid} a d d' q) o F b c w x y h h' = choose_again (stays p) p (opens f) a (λ mid' later' ys zs o o'.
+    let x' : Clear b mid' = λ e. stays_clear o b x (steady b _ (and_left _ (flows (opens f) (first tables (opens f) ++ F) b) (loop_flows w)) e) in
+    joined (prefer d o (first tables f ++ F) b false (to_loop w) x (no_parameter s) (lead tables parsed quiet checked F d' h) (open_lead w x' o' h')) (λ p r.
     let u = moved opened (sym p) (sym r) o' in
-    retaken u.takes (prefer k d' u.is F b false (to_further w) (clear_at b p x') (no_parameter mid) h h'))) o
+    retaken u.takes (prefer d' u.is F b false (to_further w) (clear_at b p x') (no_parameter mid) h h'))) o
 
 not_earlier : {cs ds : List Bool} {new new' : Scopes} {rest rest' : List Terminal} → Compared cs new rest ds new' rest' → Earlier ds cs → ⊥
 not_earlier {cs = cs} {ds = ds} (Compared.before b) e = not_both cs ds b e
 not_earlier {ds = ds} (Compared.alike q _ _) e = not_itself ds (subst (λ z. Earlier ds z) q e)
 
-unit_ready : (k : Test → Bool) → IsReady k (rule r.Unit) (0 ∷ []) true false
+unit_ready : IsReady (rule r.Unit) (0 ∷ []) true false
 unfolding decided flows suffixed opens plain within follows mem is_balanced
-unit_ready k = record { sets = refl; follow = refl; suffixes = refl; tests = IsTested.plainly refl }
+unit_ready = record { sets = refl; follow = refl; suffixes = refl; tests = IsTested.plainly refl }
 
 at_end : (s : Scopes) → mem (ahead tables parsed s []) (0 ∷ []) ≡ true
 unfolding mem ahead
@@ -326,10 +326,9 @@ at_end s = refl
 pub preferred : (ts : List Terminal) (xs : List Tree) (new : Scopes) → Derives parsed (rule r.Unit) start ts xs new [] → IsPreferred opened (rule r.Unit) start ts xs
 unfolding opens
 preferred ts xs new d =
-    let k = stays r.Unit in
-    let t = opened_of k d in
+    let t = opened_of d in
     record {
       scopes = new;
       derived = t.is;
-      first = λ ys new' o e. not_earlier (prefer k d o (0 ∷ []) true false (unit_ready k) (λ _. refl) (no_parameter start) (at_end new) (at_end new')) (subst (λ z. Earlier (choices opened o) z) t.takes e);
+      first = λ ys new' o e. not_earlier (prefer d o (0 ∷ []) true false (unit_ready) (λ _. refl) (no_parameter start) (at_end new) (at_end new')) (subst (λ z. Earlier (choices opened o) z) t.takes e);
     }

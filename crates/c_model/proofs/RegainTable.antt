@@ -1,4 +1,4 @@
--- Where each production's tests lose nothing, the table's lose nothing.
+-- What it is for the tests of one production to lose nothing.
 use Rattle.std.proofs.Common.{◌≡◌, ℕ, Bool, true, false, not, ◌&&◌, ◌||◌, List, [], refl}
 use mathlib.Core.Logic.{inl, inr}
 use Rattle.c_model.specs.declared.grammar.Rule.{Rule}
