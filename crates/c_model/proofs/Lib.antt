@@ -56,3 +56,4 @@ pub mod PpNumberLaws
 pub mod LiteralLaws
 pub mod Releases
 pub mod FirstUnitTyped
+pub mod ConvertedKinds
