@@ -7,7 +7,8 @@ use Rattle.c_model.specs.declared.grammar.Test.{Test}
 use Rattle.c_model.specs.GrammarForm.{Form, rule, ◌then◌, ◌or◌, maybe, many, when, loop, mem}
 use Rattle.c_model.specs.Derivation.{Language, Derives, Begins}
 use Rattle.c_model.specs.DecidedTable.{Tables, nullable, first, leads, within, apart, decided, table_decided}
-use Rattle.c_model.specs.ParserWalk.{ahead, goes_left, Reads, Fails, Deepens, IsQuiet}
+use Rattle.c_model.specs.ParserWalk.{ahead, goes_left, Reads, Fails, IsQuiet}
+use Rattle.c_model.specs.WalkedDerivation.{derivation, front}
 use Rattle.c_model.proofs.KindSets.{mem_behind, mem_split, and_left, and_right, or_cases, or_right, not_true, clash, mem_left, mem_right, within_mem, apart_mem}
 
 module _ (T : Tables) (L : Language) (quiet : IsQuiet T L) (ok : (r : Rule) → table_decided T r (L.body r) ≡ true) where
@@ -174,7 +175,7 @@ module _ (T : Tables) (L : Language) (quiet : IsQuiet T L) (ok : (r : Rule) → 
     pub state : new ≡ new'
     pub place : rest ≡ rest'
 
-  not_left : (f g : Form) (F : List ℕ) (k : ℕ) → apart T (leads T f F) (leads T g F) ≡ true → mem k (leads T g F) ≡ true → goes_left T L f g k ≡ true → ⊥
+  pub not_left : (f g : Form) (F : List ℕ) (k : ℕ) → apart T (leads T f F) (leads T g F) ≡ true → mem k (leads T g F) ≡ true → goes_left T L f g k ≡ true → ⊥
   unfolding leads goes_left
   not_left f g F k a h b = elim (or_cases (mem k (first T f)) _ b) [
     | inl m ↦ apart_mem T k _ _ a (mem_left k (first T f) _ m) h
@@ -184,7 +185,7 @@ module _ (T : Tables) (L : Language) (quiet : IsQuiet T L) (ok : (r : Rule) → 
     ]
   ]
 
-  not_right : (f g : Form) (F : List ℕ) (k : ℕ) → apart T (leads T f F) (leads T g F) ≡ true → mem k (leads T f F) ≡ true → goes_left T L f g k ≡ false → ⊥
+  pub not_right : (f g : Form) (F : List ℕ) (k : ℕ) → apart T (leads T f F) (leads T g F) ≡ true → mem k (leads T f F) ≡ true → goes_left T L f g k ≡ false → ⊥
   unfolding leads goes_left
   not_right f g F k a h b = elim (mem_split k (nullable T f) (first T f) F h) [
     | inl m ↦ clash _ (rw m refl) b
@@ -205,20 +206,17 @@ module _ (T : Tables) (L : Language) (quiet : IsQuiet T L) (ok : (r : Rule) → 
   ahead_keeps r s [] h = h
   ahead_keeps r s (t ∷ rest) h = quiet.keeps r s t h
 
-  moved : (f : Form) {s new : L.State} {ts rest : List L.Token} → Moves f s ts rest ⊎ Stays f s ts new rest → nullable T f ≡ false → mem (ahead T L s ts) (first T f) ≡ true
+  pub moved : (f : Form) {s new : L.State} {ts rest : List L.Token} → Moves f s ts rest ⊎ Stays f s ts new rest → nullable T f ≡ false → mem (ahead T L s ts) (first T f) ≡ true
   moved f (inl m) n = m.begun
   moved f (inr m) n = absurd (clash _ m.hollow n)
 
   -- the next tokens leave one derivation
-  pub unique : {d : ℕ} {f : Form} {s new' : L.State} {ts rest' : List L.Token} {ys : List L.Tree} → Reads T L d f s ts ys new' rest'
+  pub unique : {f : Form} {s new' : L.State} {ts rest' : List L.Token} {ys : List L.Tree} → Reads T L f s ts ys new' rest'
       → (F : List ℕ) → decided T f F ≡ true → {new : L.State} {rest : List L.Token} {xs : List L.Tree} → Derives L f s ts xs new rest → mem (ahead T L new rest) F ≡ true
       → Same xs new rest ys new' rest'
   unfolding decided leads first nullable
   unique (Reads.a_word _) F c (Derives.a_word _) h = record { trees = refl; state = refl; place = refl }
-  unique {f = rule r} (Reads.a_rule _ p) F c (Derives.a_rule {new = mid} {xs = xs} d) h =
-      let q = unique p (T.follows r) (within_rule r) d (ahead_keeps r mid _ (within_mem T _ F (T.follows r) c h)) in
-      record { trees = ap (λ zs. L.node r zs ∷ []) q.trees; state = rw q.state refl; place = q.place }
-  unique {f = rule r} (Reads.a_part _ p) F c (Derives.a_rule {new = mid} {xs = xs} d) h =
+  unique {f = rule r} (Reads.a_rule p) F c (Derives.a_rule {new = mid} {xs = xs} d) h =
       let q = unique p (T.follows r) (within_rule r) d (ahead_keeps r mid _ (within_mem T _ F (T.follows r) c h)) in
       record { trees = ap (λ zs. L.node r zs ∷ []) q.trees; state = rw q.state refl; place = q.place }
   unique Reads.nothing F c Derives.nothing h = record { trees = refl; state = refl; place = refl }
@@ -251,22 +249,8 @@ module _ (T : Tables) (L : Language) (quiet : IsQuiet T L) (ok : (r : Rule) → 
       paired q.trees (unique r' F c (rw (q.state, q.place) at d') h) e e'
 
   -- what is read is derived
-  pub sound : {d : ℕ} {f : Form} {s new : L.State} {ts rest : List L.Token} {xs : List L.Tree} → Reads T L d f s ts xs new rest → Derives L f s ts xs new rest
-  sound (Reads.a_word e) = Derives.a_word e
-  sound (Reads.a_rule _ p) = Derives.a_rule (sound p)
-  sound (Reads.a_part _ p) = Derives.a_rule (sound p)
-  sound Reads.nothing = Derives.nothing
-  sound (Reads.both p q e) = Derives.both (sound p) (sound q) e
-  sound (Reads.left b p) = Derives.left (sound p)
-  sound (Reads.right b p) = Derives.right (sound p)
-  sound (Reads.skip b) = Derives.skip
-  sound (Reads.take b p) = Derives.take (sound p)
-  sound (Reads.stop b) = Derives.stop
-  sound (Reads.turn b p q e) = Derives.turn (sound p) (sound q) e
-  sound (Reads.chosen b p) = Derives.chosen b (sound p)
-  sound (Reads.other b p) = Derives.other b (sound p)
-  sound (Reads.done b) = Derives.done b
-  sound (Reads.again b p q e) = Derives.again b (sound p) (sound q) e
+  pub sound : {f : Form} {s new : L.State} {ts rest : List L.Token} {xs : List L.Tree} → Reads T L f s ts xs new rest → Derives L f s ts xs new rest
+  sound p = derivation T L p
 
   -- what is derived is begun
   pub begun : {f : Form} {s new : L.State} {ts rest : List L.Token} {xs : List L.Tree} → Derives L f s ts xs new rest → Begins L f s ts rest
@@ -286,35 +270,19 @@ module _ (T : Tables) (L : Language) (quiet : IsQuiet T L) (ok : (r : Rule) → 
   begun (Derives.again b p q e) = Begins.in_further b p (begun q)
 
   -- what comes before a fault is begun
-  pub read_so_far : {d : ℕ} {f : Form} {s : L.State} {ts rest : List L.Token} → Fails T L d f s ts rest → Begins L f s ts rest
-  read_so_far Fails.at_end = Begins.yet
-  read_so_far (Fails.at_word _) = Begins.yet
-  read_so_far (Fails.in_rule _ p) = Begins.in_rule (read_so_far p)
-  read_so_far (Fails.in_part _ p) = Begins.in_rule (read_so_far p)
-  read_so_far (Fails.in_first p) = Begins.in_first (read_so_far p)
-  read_so_far (Fails.in_then p q) = Begins.in_then (sound p) (read_so_far q)
-  read_so_far (Fails.in_left b p) = Begins.in_left (read_so_far p)
-  read_so_far (Fails.in_right b p) = Begins.in_right (read_so_far p)
-  read_so_far (Fails.in_maybe b p) = Begins.in_maybe (read_so_far p)
-  read_so_far (Fails.in_turn b p) = Begins.in_turn (read_so_far p)
-  read_so_far (Fails.in_later b p q) = Begins.in_later (sound p) (read_so_far q)
-  read_so_far (Fails.in_chosen b p) = Begins.in_chosen b (read_so_far p)
-  read_so_far (Fails.in_other b p) = Begins.in_other b (read_so_far p)
-  read_so_far (Fails.no_word _ _) = Begins.yet
-  read_so_far (Fails.in_again b p) = Begins.in_again b (read_so_far p)
-  read_so_far (Fails.in_further b p q) = Begins.in_further b (sound p) (read_so_far q)
+  pub read_so_far : {f : Form} {s : L.State} {ts rest : List L.Token} → Fails T L f s ts rest → Begins L f s ts rest
+  read_so_far p = front T L p
 
   pub no_longer : {f : Form} {s : L.State} {ts rest : List L.Token} → Begins L f s ts rest → length rest ≤ length ts
   no_longer d = elim (entry d) [ inl m ↦ let h = m.shorter in omega arith | inr e ↦ let h = ap length e in omega arith ]
 
   -- where the form fails, it is not derived before what may follow
-  pub refuted : {d : ℕ} {f : Form} {s : L.State} {ts rest' : List L.Token} → Fails T L d f s ts rest'
+  pub refuted : {f : Form} {s : L.State} {ts rest' : List L.Token} → Fails T L f s ts rest'
       → (F : List ℕ) → decided T f F ≡ true → {new : L.State} {rest : List L.Token} {xs : List L.Tree} → Derives L f s ts xs new rest → mem (ahead T L new rest) F ≡ true → ⊥
   unfolding decided leads first nullable
   refuted Fails.at_end F c d h = elim d [ ]
   refuted (Fails.at_word n) F c (Derives.a_word e) h = clash _ e n
-  refuted {f = rule r} (Fails.in_rule _ p) F c (Derives.a_rule d) h = refuted p (T.follows r) (within_rule r) d (ahead_keeps r _ _ (within_mem T _ F (T.follows r) c h))
-  refuted {f = rule r} (Fails.in_part _ p) F c (Derives.a_rule d) h = refuted p (T.follows r) (within_rule r) d (ahead_keeps r _ _ (within_mem T _ F (T.follows r) c h))
+  refuted {f = rule r} (Fails.in_rule p) F c (Derives.a_rule d) h = refuted p (T.follows r) (within_rule r) d (ahead_keeps r _ _ (within_mem T _ F (T.follows r) c h))
   refuted {f = f then g} (Fails.in_first p) F c (Derives.both d d' e) h = refuted p (leads T g F) (and_left _ (decided T g F) c) d (lead F d' h)
   refuted {f = f then g} (Fails.in_then p p') F c (Derives.both d d' e) h =
       let q = unique p (leads T g F) (and_left _ (decided T g F) c) d (lead F d' h) in
@@ -335,7 +303,6 @@ module _ (T : Tables) (L : Language) (quiet : IsQuiet T L) (ok : (r : Rule) → 
   refuted {f = when p f g} (Fails.in_chosen b r) F c (Derives.other b' d) h = clash _ b b'
   refuted {f = when p f g} (Fails.in_other b r) F c (Derives.chosen b' d) h = clash _ b' b
   refuted {f = when p f g} (Fails.in_other b r) F c (Derives.other _ d) h = refuted r F (and_right (decided T f F) _ c) d h
-  refuted {f = rule r} (Fails.no_word n b) F c d h = elim (step d) [ inl m ↦ clash _ m.begun b | inr m ↦ clash _ m.hollow n ]
   refuted {f = loop p f} (Fails.in_again b r) F c (Derives.done b') h = clash _ b b'
   refuted {f = loop p f} (Fails.in_again b r) F c (Derives.again _ d d' e) h = refuted r (first T f ++ F) (and_right (not (nullable T f)) _ c) d (lead F d' h)
   refuted {f = loop p f} (Fails.in_further b r r') F c (Derives.done b') h = clash _ b b'
@@ -344,13 +311,12 @@ module _ (T : Tables) (L : Language) (quiet : IsQuiet T L) (ok : (r : Rule) → 
       refuted r' F c (rw (q.state, q.place) at d') h
 
   -- behind what is read, the form goes no further
-  pub ended : {d : ℕ} {f : Form} {s new : L.State} {ts rest : List L.Token} {xs : List L.Tree} → Reads T L d f s ts xs new rest
+  pub ended : {f : Form} {s new : L.State} {ts rest : List L.Token} {xs : List L.Tree} → Reads T L f s ts xs new rest
       → (F : List ℕ) → decided T f F ≡ true → {r : List L.Token} → Begins L f s ts r → length r < length rest → ⊥
   unfolding decided leads first nullable
   ended p F c Begins.yet h = let k = no_longer (begun (sound p)) in omega arith
   ended (Reads.a_word e) F c (Begins.in_word d) h = omega arith
-  ended {f = rule r} (Reads.a_rule _ p) F c (Begins.in_rule d) h = ended p (T.follows r) (within_rule r) d h
-  ended {f = rule r} (Reads.a_part _ p) F c (Begins.in_rule d) h = ended p (T.follows r) (within_rule r) d h
+  ended {f = rule r} (Reads.a_rule p) F c (Begins.in_rule d) h = ended p (T.follows r) (within_rule r) d h
   ended {f = f then g} (Reads.both p p' e) F c (Begins.in_first d) h = let k = no_longer (begun (sound p')) in ended p (leads T g F) (and_left _ (decided T g F) c) d (omega arith)
   ended {f = f then g} (Reads.both p p' e) F c (Begins.in_then d d') h = elim (entry d') [
     | inl m ↦ let q = unique p (leads T g F) (and_left _ (decided T g F) c) d (mem_left _ _ _ m.begun) in
@@ -400,13 +366,12 @@ module _ (T : Tables) (L : Language) (quiet : IsQuiet T L) (ok : (r : Rule) → 
   ]
 
   -- no longer front than that before the fault is begun
-  pub first_fault : {d : ℕ} {f : Form} {s : L.State} {ts rest : List L.Token} → Fails T L d f s ts rest
+  pub first_fault : {f : Form} {s : L.State} {ts rest : List L.Token} → Fails T L f s ts rest
       → (F : List ℕ) → decided T f F ≡ true → {r : List L.Token} → Begins L f s ts r → length r < length rest → ⊥
   unfolding decided leads first nullable
   first_fault p F c Begins.yet h = let k = no_longer (read_so_far p) in omega arith
   first_fault (Fails.at_word n) F c (Begins.in_word e) h = clash _ e n
-  first_fault {f = rule r} (Fails.in_rule _ p) F c (Begins.in_rule d) h = first_fault p (T.follows r) (within_rule r) d h
-  first_fault {f = rule r} (Fails.in_part _ p) F c (Begins.in_rule d) h = first_fault p (T.follows r) (within_rule r) d h
+  first_fault {f = rule r} (Fails.in_rule p) F c (Begins.in_rule d) h = first_fault p (T.follows r) (within_rule r) d h
   first_fault {f = f then g} (Fails.in_first p) F c (Begins.in_first d) h = first_fault p (leads T g F) (and_left _ (decided T g F) c) d h
   first_fault {f = f then g} (Fails.in_first p) F c (Begins.in_then d d') h = elim (entry d') [
     | inl m ↦ refuted p (leads T g F) (and_left _ (decided T g F) c) d (mem_left _ _ _ m.begun)
@@ -444,7 +409,6 @@ module _ (T : Tables) (L : Language) (quiet : IsQuiet T L) (ok : (r : Rule) → 
   first_fault {f = when p f g} (Fails.in_chosen b r) F c (Begins.in_other b' d) h = clash _ b b'
   first_fault {f = when p f g} (Fails.in_other b r) F c (Begins.in_chosen b' d) h = clash _ b' b
   first_fault {f = when p f g} (Fails.in_other b r) F c (Begins.in_other _ d) h = first_fault r F (and_right (decided T f F) _ c) d h
-  first_fault {f = rule r} (Fails.no_word n b) F c d h = elim (entry d) [ inl m ↦ clash _ m.begun b | inr e ↦ let z = ap length e in omega arith ]
   first_fault {f = loop p f} (Fails.in_again b r) F c (Begins.in_again _ d) h = first_fault r (first T f ++ F) (and_right (not (nullable T f)) _ c) d h
   first_fault {f = loop p f} (Fails.in_again b r) F c (Begins.in_further _ d d') h = elim (entry d') [
     | inl m ↦ refuted r (first T f ++ F) (and_right (not (nullable T f)) _ c) d (mem_left _ _ _ m.begun)
@@ -456,23 +420,6 @@ module _ (T : Tables) (L : Language) (quiet : IsQuiet T L) (ok : (r : Rule) → 
         first_fault r' F c (rw (q.state, q.place) at d') h
     | inr e ↦ let k = no_longer (read_so_far r') in let z = rw e at h in ended r (first T f ++ F) (and_right (not (nullable T f)) _ c) (begun d) (omega arith)
   ]
-
-  -- what comes before the first token that is too deep is begun
-  pub deep_so_far : {d : ℕ} {f : Form} {s : L.State} {ts rest : List L.Token} → Deepens T L d f s ts rest → Begins L f s ts rest
-  deep_so_far (Deepens.at_part _ _) = Begins.yet
-  deep_so_far (Deepens.in_rule _ p) = Begins.in_rule (deep_so_far p)
-  deep_so_far (Deepens.in_part _ p) = Begins.in_rule (deep_so_far p)
-  deep_so_far (Deepens.in_first p) = Begins.in_first (deep_so_far p)
-  deep_so_far (Deepens.in_then p q) = Begins.in_then (sound p) (deep_so_far q)
-  deep_so_far (Deepens.in_left b p) = Begins.in_left (deep_so_far p)
-  deep_so_far (Deepens.in_right b p) = Begins.in_right (deep_so_far p)
-  deep_so_far (Deepens.in_maybe b p) = Begins.in_maybe (deep_so_far p)
-  deep_so_far (Deepens.in_turn b p) = Begins.in_turn (deep_so_far p)
-  deep_so_far (Deepens.in_later b p q) = Begins.in_later (sound p) (deep_so_far q)
-  deep_so_far (Deepens.in_chosen b p) = Begins.in_chosen b (deep_so_far p)
-  deep_so_far (Deepens.in_other b p) = Begins.in_other b (deep_so_far p)
-  deep_so_far (Deepens.in_again b p) = Begins.in_again b (deep_so_far p)
-  deep_so_far (Deepens.in_further b p q) = Begins.in_further b (sound p) (deep_so_far q)
 
   -- what is left is the end of the tokens
   Ends : List L.Token → List L.Token → Type 0

@@ -25,6 +25,12 @@ pub mod OneFindings
 pub mod KindSets
 pub mod DecidedGrammar
 pub mod ParserDecided
+pub mod TableWeights
+pub mod TotalWalk
+pub mod AlikeWalks
+pub mod MarkedWalks
+pub mod MarksBehind
+pub mod OneMarking
 pub mod Forget
 pub mod ClearBrackets
 pub mod OpenFlows
@@ -52,6 +58,8 @@ pub mod PastDeclarators
 pub mod RegainFunction
 pub mod Loosen
 pub mod RegainUnit
+pub mod OneAnswer
+pub mod SomeAnswer
 pub mod PpNumberLaws
 pub mod LiteralLaws
 pub mod Releases

@@ -1,7 +1,7 @@
 -- The place at which the nesting of parts passes its limit. A token lies in the parts that are open at it; a part is one
 -- higher than its highest piece; and a chain of operators, of commas or of what follows an operand grows by one at each. It
--- is stated of any language; of the parser only the count of open parts is proved, by the walk through its own table.
-use Rattle.std.specs.Prelude.{ℕ, ◌+◌, ◌<◌, ◌≡◌, max, Bool, true, false, if◌then◌else◌, List, [], ◌∷◌, ◌++◌, drop, Some, slice_get}
+-- is stated of the derivations of any language.
+use Rattle.std.specs.Prelude.{ℕ, ◌+◌, ◌<◌, ◌≡◌, max, Bool, true, false, if◌then◌else◌, List, [], ◌∷◌, ◌++◌, length, drop}
 use mathlib.Core.Logic.{◌⊎◌}
 use Rattle.c_model.specs.declared.grammar.Rule.{Rule}
 use Rattle.c_model.specs.declared.grammar.Rule.TheVariants as r
@@ -47,6 +47,9 @@ abbrev pub carried : ℕ → List Mark → ℕ → ℕ
 carried before [] after = max before after
 carried before (mark ∷ marks) after = after
 
+abbrev pub behind : ℕ → Piece → Piece
+behind ending p = record { marks = shown ending p.marks; height = p.height; ending = carried ending p.marks p.ending }
+
 -- one piece behind another
 abbrev pub joined : Piece → Piece → Piece
 joined p q = record { marks = p.marks ++ shown p.ending q.marks; height = max p.height q.height; ending = carried p.ending q.marks q.ending }
@@ -82,7 +85,7 @@ module _ (L : Language) where
 
   -- grown chain inside d before: what has been read, `before`, and then what the derivation reads inside so many open
   -- parts; each turn of a chain makes it higher
-  pub grown : {f : Form} {s new : State} {ts rest : List Token} {xs : List Tree} → Bool → ℕ → Derives L f s ts xs new rest → Piece → Piece
+  unfoldable pub grown : {f : Form} {s new : State} {ts rest : List Token} {xs : List Tree} → Bool → ℕ → Derives L f s ts xs new rest → Piece → Piece
   grown chain inside (Derives.a_word e) before = joined before (one_token inside)
   grown chain inside (Derives.a_rule {r = r} d) before = joined before (ends (L.is_part r) (grown (is_chain r) (deeper (L.is_part r) inside) d nothing_read))
   grown chain inside Derives.nothing before = before
@@ -96,10 +99,10 @@ module _ (L : Language) where
   grown chain inside (Derives.chosen b d) before = grown chain inside d before
   grown chain inside (Derives.other b d) before = grown chain inside d before
   grown chain inside (Derives.done b) before = before
-  grown chain inside (Derives.again b d e h) before = grown chain inside e (grown chain inside d before)
+  grown chain inside (Derives.again b d e h) before = grown chain inside e (if chain then chained before (grown false inside d nothing_read) else grown false inside d before)
 
   -- likewise an unfinished derivation, whose unfinished parts are open at its end
-  pub grown_so_far : {f : Form} {s : State} {ts rest : List Token} → Bool → ℕ → Begins L f s ts rest → Piece → Piece
+  unfoldable pub grown_so_far : {f : Form} {s : State} {ts rest : List Token} → Bool → ℕ → Begins L f s ts rest → Piece → Piece
   grown_so_far chain inside Begins.yet before = before
   grown_so_far chain inside (Begins.in_word e) before = joined before (one_token inside)
   grown_so_far chain inside (Begins.in_rule {r = r} d) before = joined before (grown_so_far (is_chain r) (deeper (L.is_part r) inside) d nothing_read)
@@ -108,12 +111,19 @@ module _ (L : Language) where
   grown_so_far chain inside (Begins.in_left d) before = grown_so_far chain inside d before
   grown_so_far chain inside (Begins.in_right d) before = grown_so_far chain inside d before
   grown_so_far chain inside (Begins.in_maybe d) before = grown_so_far chain inside d before
-  grown_so_far chain inside (Begins.in_turn d) before = joined before (grown_so_far false inside d nothing_read)
+  grown_so_far chain inside (Begins.in_turn d) before = if chain then joined before (grown_so_far false inside d nothing_read) else grown_so_far false inside d before
   grown_so_far chain inside (Begins.in_later d e) before = grown_so_far chain inside e (if chain then chained before (grown false inside d nothing_read) else grown false inside d before)
   grown_so_far chain inside (Begins.in_chosen b d) before = grown_so_far chain inside d before
   grown_so_far chain inside (Begins.in_other b d) before = grown_so_far chain inside d before
-  grown_so_far chain inside (Begins.in_again b d) before = grown_so_far chain inside d before
-  grown_so_far chain inside (Begins.in_further b d e) before = grown_so_far chain inside e (grown chain inside d before)
+  grown_so_far chain inside (Begins.in_again b d) before = if chain then joined before (grown_so_far false inside d nothing_read) else grown_so_far false inside d before
+  grown_so_far chain inside (Begins.in_further b d e) before = grown_so_far chain inside e (if chain then chained before (grown false inside d nothing_read) else grown false inside d before)
+
+  -- the marks of the tokens that are derived, or begun, where no part is open before them
+  abbrev pub marks : {f : Form} {s new : State} {ts rest : List Token} {xs : List Tree} → Derives L f s ts xs new rest → List Mark
+  marks d = (grown false 0 d nothing_read).marks
+
+  abbrev pub marks_so_far : {f : Form} {s : State} {ts rest : List Token} → Begins L f s ts rest → List Mark
+  marks_so_far d = (grown_so_far false 0 d nothing_read).marks
 
 -- how many parts may stand inside each other
 abbrev pub max_parts : ℕ
@@ -122,12 +132,28 @@ max_parts = 1000
 abbrev pub PassesLimit : Mark → Type 0
 PassesLimit mark = (max_parts < mark.inside) ⊎ (max_parts < mark.ended)
 
+-- none of them passes the limit
+abbrev pub AreShallow : List Mark → Type 0
+AreShallow [] = Unit {0}
+AreShallow (mark ∷ marks) = (PassesLimit mark → ⊥) × AreShallow marks
+
 -- the mark of the token k is the first that passes the limit
 pub record IsFirstDeep (marks : List Mark) (k : ℕ) : Type 0 where
+  pub before : List Mark
   pub mark : Mark
-  pub there : slice_get marks k ≡ Some mark
+  pub later : List Mark
+  pub split : marks ≡ before ++ mark ∷ later
+  pub place : k ≡ length before
+  pub shallow : AreShallow before
   pub deep : PassesLimit mark
-  pub none_before : (j : ℕ) (other : Mark) → j < k → slice_get marks j ≡ Some other → PassesLimit other → ⊥
+
+-- the last mark is the first that passes it
+pub record EndsDeep (marks : List Mark) : Type 0 where
+  pub before : List Mark
+  pub mark : Mark
+  pub split : marks ≡ before ++ mark ∷ []
+  pub shallow : AreShallow before
+  pub deep : PassesLimit mark
 
 -- of all derivations the one whose choices come first
 pub record DeepInWhole (L : Language) (f : Form) (s : L.State) (ts : List L.Token) (k : ℕ) : Type 0 where
@@ -135,11 +161,11 @@ pub record DeepInWhole (L : Language) (f : Form) (s : L.State) (ts : List L.Toke
   pub scopes : L.State
   pub derived : Derives L f s ts trees scopes []
   pub first : (ys : List L.Tree) (new : L.State) (other : Derives L f s ts ys new []) → Earlier (choices L other) (choices L derived) → ⊥
-  pub deep : IsFirstDeep (grown L false 0 derived nothing_read).marks k
+  pub deep : IsFirstDeep (marks L derived) k
 
 -- where the tokens are derived by none: of all unfinished derivations of those before the fault, at j
 pub record DeepBefore (L : Language) (f : Form) (s : L.State) (ts : List L.Token) (j k : ℕ) : Type 0 where
   pub begun : Begins L f s ts (drop j ts)
   pub first : (other : Begins L f s ts (drop j ts)) → Earlier (choices_so_far L other) (choices_so_far L begun) → ⊥
   pub before : k < j
-  pub deep : IsFirstDeep (grown_so_far L false 0 begun nothing_read).marks k
+  pub deep : IsFirstDeep (marks_so_far L begun) k

@@ -103,14 +103,17 @@ pub mod Grammar
 pub mod SyntaxTree
 pub mod DecidedTable
 pub mod ParserWalk
+pub mod WalkedDerivation
 pub mod ParserTable
 pub mod ParserSets
 pub mod ParserTests
 pub mod Untested
 pub mod Preferences
 pub mod DepthPlace
+pub mod LeftWeights
 pub mod OpenTable
 pub mod UnitSyntax
+pub mod OneAnswer
 pub mod TerminalsOf
 pub mod SyntaxValues
 pub mod SyntaxExprActions

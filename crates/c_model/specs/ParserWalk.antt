@@ -1,6 +1,6 @@
--- The walk of a parser through a table: what it reads, where it fails, and where it meets a part too many. It decides by
--- the next token and by the table's tests and never goes back.
-use Rattle.std.specs.Prelude.{ℕ, suc, ◌≡◌, Bool, true, false, not, ◌&&◌, ◌||◌, List, [], ◌∷◌, ◌++◌}
+-- The walk of a parser through a table: what it reads, where it fails, and how it comes to a token. It decides by the next
+-- token and by the table's tests and never goes back.
+use Rattle.std.specs.Prelude.{ℕ, ◌≡◌, Bool, true, false, not, ◌&&◌, ◌||◌, List, [], ◌∷◌, ◌++◌}
 use Rattle.c_model.specs.declared.grammar.Rule.{Rule}
 use Rattle.c_model.specs.declared.grammar.Act.{Act}
 use Rattle.c_model.specs.declared.grammar.Test.{Test}
@@ -26,59 +26,55 @@ module _ (T : Tables) (L : Language) where
   unfoldable pub goes_left : Form → Form → ℕ → Bool
   goes_left f g k = mem k (first T f) || nullable T f && not (mem k (first T g))
 
-  -- Reads d f s ts xs new rest: the derivation that the next token decides on, with at most d parts nested in it
-  pub data Reads : ℕ → Form → State → List Token → List Tree → State → List Token → Type 0 where
-    a_word : {d : ℕ} {ks : List ℕ} {a : Act} {s : State} {t : Token} {ts : List Token} → mem (L.kind s t) ks ≡ true → Reads d (word ks a) s (t ∷ ts) (L.leaf t ∷ []) (L.after a s t) ts
-    a_rule : {d : ℕ} {r : Rule} {s new : State} {ts rest : List Token} {xs : List Tree} → L.is_part r ≡ false → Reads d (L.body r) s ts xs new rest → Reads d (rule r) s ts (L.node r xs ∷ []) (L.close r new) rest
-    a_part : {d : ℕ} {r : Rule} {s new : State} {ts rest : List Token} {xs : List Tree} → L.is_part r ≡ true → Reads d (L.body r) s ts xs new rest → Reads (suc d) (rule r) s ts (L.node r xs ∷ []) (L.close r new) rest
-    nothing : {d : ℕ} {s : State} {ts : List Token} → Reads d empty s ts [] s ts
-    both : {d : ℕ} {f g : Form} {s mid new : State} {ts later rest : List Token} {xs ys zs : List Tree} → Reads d f s ts xs mid later → Reads d g mid later ys new rest → zs ≡ xs ++ ys → Reads d (f then g) s ts zs new rest
-    left : {d : ℕ} {f g : Form} {s new : State} {ts rest : List Token} {xs : List Tree} → goes_left f g (ahead s ts) ≡ true → Reads d f s ts xs new rest → Reads d (f or g) s ts xs new rest
-    right : {d : ℕ} {f g : Form} {s new : State} {ts rest : List Token} {xs : List Tree} → goes_left f g (ahead s ts) ≡ false → Reads d g s ts xs new rest → Reads d (f or g) s ts xs new rest
-    skip : {d : ℕ} {f : Form} {s : State} {ts : List Token} → mem (ahead s ts) (first T f) ≡ false → Reads d (maybe f) s ts [] s ts
-    take : {d : ℕ} {f : Form} {s new : State} {ts rest : List Token} {xs : List Tree} → mem (ahead s ts) (first T f) ≡ true → Reads d f s ts xs new rest → Reads d (maybe f) s ts xs new rest
-    stop : {d : ℕ} {f : Form} {s : State} {ts : List Token} → mem (ahead s ts) (first T f) ≡ false → Reads d (many f) s ts [] s ts
-    turn : {d : ℕ} {f : Form} {s mid new : State} {ts later rest : List Token} {xs ys zs : List Tree} → mem (ahead s ts) (first T f) ≡ true → Reads d f s ts xs mid later → Reads d (many f) mid later ys new rest → zs ≡ xs ++ ys → Reads d (many f) s ts zs new rest
-    chosen : {d : ℕ} {p : Test} {f g : Form} {s new : State} {ts rest : List Token} {xs : List Tree} → L.test p s ts ≡ true → Reads d f s ts xs new rest → Reads d (when p f g) s ts xs new rest
-    other : {d : ℕ} {p : Test} {f g : Form} {s new : State} {ts rest : List Token} {xs : List Tree} → L.test p s ts ≡ false → Reads d g s ts xs new rest → Reads d (when p f g) s ts xs new rest
-    done : {d : ℕ} {p : Test} {f : Form} {s : State} {ts : List Token} → L.test p s ts ≡ false → Reads d (loop p f) s ts [] s ts
-    again : {d : ℕ} {p : Test} {f : Form} {s mid new : State} {ts later rest : List Token} {xs ys zs : List Tree} → L.test p s ts ≡ true → Reads d f s ts xs mid later → Reads d (loop p f) mid later ys new rest → zs ≡ xs ++ ys → Reads d (loop p f) s ts zs new rest
+  -- Reads f s ts xs new rest: the derivation that the next token decides on
+  pub data Reads : Form → State → List Token → List Tree → State → List Token → Type 0 where
+    a_word : {ks : List ℕ} {a : Act} {s : State} {t : Token} {ts : List Token} → mem (L.kind s t) ks ≡ true → Reads (word ks a) s (t ∷ ts) (L.leaf t ∷ []) (L.after a s t) ts
+    a_rule : {r : Rule} {s new : State} {ts rest : List Token} {xs : List Tree} → Reads (L.body r) s ts xs new rest → Reads (rule r) s ts (L.node r xs ∷ []) (L.close r new) rest
+    nothing : {s : State} {ts : List Token} → Reads empty s ts [] s ts
+    both : {f g : Form} {s mid new : State} {ts later rest : List Token} {xs ys zs : List Tree} → Reads f s ts xs mid later → Reads g mid later ys new rest → zs ≡ xs ++ ys → Reads (f then g) s ts zs new rest
+    left : {f g : Form} {s new : State} {ts rest : List Token} {xs : List Tree} → goes_left f g (ahead s ts) ≡ true → Reads f s ts xs new rest → Reads (f or g) s ts xs new rest
+    right : {f g : Form} {s new : State} {ts rest : List Token} {xs : List Tree} → goes_left f g (ahead s ts) ≡ false → Reads g s ts xs new rest → Reads (f or g) s ts xs new rest
+    skip : {f : Form} {s : State} {ts : List Token} → mem (ahead s ts) (first T f) ≡ false → Reads (maybe f) s ts [] s ts
+    take : {f : Form} {s new : State} {ts rest : List Token} {xs : List Tree} → mem (ahead s ts) (first T f) ≡ true → Reads f s ts xs new rest → Reads (maybe f) s ts xs new rest
+    stop : {f : Form} {s : State} {ts : List Token} → mem (ahead s ts) (first T f) ≡ false → Reads (many f) s ts [] s ts
+    turn : {f : Form} {s mid new : State} {ts later rest : List Token} {xs ys zs : List Tree} → mem (ahead s ts) (first T f) ≡ true → Reads f s ts xs mid later → Reads (many f) mid later ys new rest → zs ≡ xs ++ ys → Reads (many f) s ts zs new rest
+    chosen : {p : Test} {f g : Form} {s new : State} {ts rest : List Token} {xs : List Tree} → L.test p s ts ≡ true → Reads f s ts xs new rest → Reads (when p f g) s ts xs new rest
+    other : {p : Test} {f g : Form} {s new : State} {ts rest : List Token} {xs : List Tree} → L.test p s ts ≡ false → Reads g s ts xs new rest → Reads (when p f g) s ts xs new rest
+    done : {p : Test} {f : Form} {s : State} {ts : List Token} → L.test p s ts ≡ false → Reads (loop p f) s ts [] s ts
+    again : {p : Test} {f : Form} {s mid new : State} {ts later rest : List Token} {xs ys zs : List Tree} → L.test p s ts ≡ true → Reads f s ts xs mid later → Reads (loop p f) mid later ys new rest → zs ≡ xs ++ ys → Reads (loop p f) s ts zs new rest
 
-  -- Fails d f s ts rest: the walk finds no derivation, and reads the tokens before rest
-  pub data Fails : ℕ → Form → State → List Token → List Token → Type 0 where
-    at_end : {d : ℕ} {ks : List ℕ} {a : Act} {s : State} → Fails d (word ks a) s [] []
-    at_word : {d : ℕ} {ks : List ℕ} {a : Act} {s : State} {t : Token} {ts : List Token} → mem (L.kind s t) ks ≡ false → Fails d (word ks a) s (t ∷ ts) (t ∷ ts)
-    in_rule : {d : ℕ} {r : Rule} {s : State} {ts rest : List Token} → L.is_part r ≡ false → Fails d (L.body r) s ts rest → Fails d (rule r) s ts rest
-    in_part : {d : ℕ} {r : Rule} {s : State} {ts rest : List Token} → L.is_part r ≡ true → Fails d (L.body r) s ts rest → Fails (suc d) (rule r) s ts rest
-    in_first : {d : ℕ} {f g : Form} {s : State} {ts rest : List Token} → Fails d f s ts rest → Fails d (f then g) s ts rest
-    in_then : {d : ℕ} {f g : Form} {s mid : State} {ts later rest : List Token} {xs : List Tree} → Reads d f s ts xs mid later → Fails d g mid later rest → Fails d (f then g) s ts rest
-    in_left : {d : ℕ} {f g : Form} {s : State} {ts rest : List Token} → goes_left f g (ahead s ts) ≡ true → Fails d f s ts rest → Fails d (f or g) s ts rest
-    in_right : {d : ℕ} {f g : Form} {s : State} {ts rest : List Token} → goes_left f g (ahead s ts) ≡ false → Fails d g s ts rest → Fails d (f or g) s ts rest
-    in_maybe : {d : ℕ} {f : Form} {s : State} {ts rest : List Token} → mem (ahead s ts) (first T f) ≡ true → Fails d f s ts rest → Fails d (maybe f) s ts rest
-    in_turn : {d : ℕ} {f : Form} {s : State} {ts rest : List Token} → mem (ahead s ts) (first T f) ≡ true → Fails d f s ts rest → Fails d (many f) s ts rest
-    in_later : {d : ℕ} {f : Form} {s mid : State} {ts later rest : List Token} {xs : List Tree} → mem (ahead s ts) (first T f) ≡ true → Reads d f s ts xs mid later → Fails d (many f) mid later rest → Fails d (many f) s ts rest
-    in_chosen : {d : ℕ} {p : Test} {f g : Form} {s : State} {ts rest : List Token} → L.test p s ts ≡ true → Fails d f s ts rest → Fails d (when p f g) s ts rest
-    in_other : {d : ℕ} {p : Test} {f g : Form} {s : State} {ts rest : List Token} → L.test p s ts ≡ false → Fails d g s ts rest → Fails d (when p f g) s ts rest
-    no_word : {d : ℕ} {r : Rule} {s : State} {ts : List Token} → T.hollow r ≡ false → mem (ahead s ts) (T.firsts r) ≡ false → Fails d (rule r) s ts ts
-    in_again : {d : ℕ} {p : Test} {f : Form} {s : State} {ts rest : List Token} → L.test p s ts ≡ true → Fails d f s ts rest → Fails d (loop p f) s ts rest
-    in_further : {d : ℕ} {p : Test} {f : Form} {s mid : State} {ts later rest : List Token} {xs : List Tree} → L.test p s ts ≡ true → Reads d f s ts xs mid later → Fails d (loop p f) mid later rest → Fails d (loop p f) s ts rest
+  -- Fails f s ts rest: the walk finds no derivation, and reads the tokens before rest
+  pub data Fails : Form → State → List Token → List Token → Type 0 where
+    at_end : {ks : List ℕ} {a : Act} {s : State} → Fails (word ks a) s [] []
+    at_word : {ks : List ℕ} {a : Act} {s : State} {t : Token} {ts : List Token} → mem (L.kind s t) ks ≡ false → Fails (word ks a) s (t ∷ ts) (t ∷ ts)
+    in_rule : {r : Rule} {s : State} {ts rest : List Token} → Fails (L.body r) s ts rest → Fails (rule r) s ts rest
+    in_first : {f g : Form} {s : State} {ts rest : List Token} → Fails f s ts rest → Fails (f then g) s ts rest
+    in_then : {f g : Form} {s mid : State} {ts later rest : List Token} {xs : List Tree} → Reads f s ts xs mid later → Fails g mid later rest → Fails (f then g) s ts rest
+    in_left : {f g : Form} {s : State} {ts rest : List Token} → goes_left f g (ahead s ts) ≡ true → Fails f s ts rest → Fails (f or g) s ts rest
+    in_right : {f g : Form} {s : State} {ts rest : List Token} → goes_left f g (ahead s ts) ≡ false → Fails g s ts rest → Fails (f or g) s ts rest
+    in_maybe : {f : Form} {s : State} {ts rest : List Token} → mem (ahead s ts) (first T f) ≡ true → Fails f s ts rest → Fails (maybe f) s ts rest
+    in_turn : {f : Form} {s : State} {ts rest : List Token} → mem (ahead s ts) (first T f) ≡ true → Fails f s ts rest → Fails (many f) s ts rest
+    in_later : {f : Form} {s mid : State} {ts later rest : List Token} {xs : List Tree} → mem (ahead s ts) (first T f) ≡ true → Reads f s ts xs mid later → Fails (many f) mid later rest → Fails (many f) s ts rest
+    in_chosen : {p : Test} {f g : Form} {s : State} {ts rest : List Token} → L.test p s ts ≡ true → Fails f s ts rest → Fails (when p f g) s ts rest
+    in_other : {p : Test} {f g : Form} {s : State} {ts rest : List Token} → L.test p s ts ≡ false → Fails g s ts rest → Fails (when p f g) s ts rest
+    in_again : {p : Test} {f : Form} {s : State} {ts rest : List Token} → L.test p s ts ≡ true → Fails f s ts rest → Fails (loop p f) s ts rest
+    in_further : {p : Test} {f : Form} {s mid : State} {ts later rest : List Token} {xs : List Tree} → L.test p s ts ≡ true → Reads f s ts xs mid later → Fails (loop p f) mid later rest → Fails (loop p f) s ts rest
 
-  -- Deepens d f s ts rest: the next token of rest stands in more than d nested parts
-  pub data Deepens : ℕ → Form → State → List Token → List Token → Type 0 where
-    at_part : {r : Rule} {s : State} {ts : List Token} → L.is_part r ≡ true → (T.hollow r || mem (ahead s ts) (T.firsts r)) ≡ true → Deepens 0 (rule r) s ts ts
-    in_rule : {d : ℕ} {r : Rule} {s : State} {ts rest : List Token} → L.is_part r ≡ false → Deepens d (L.body r) s ts rest → Deepens d (rule r) s ts rest
-    in_part : {d : ℕ} {r : Rule} {s : State} {ts rest : List Token} → L.is_part r ≡ true → Deepens d (L.body r) s ts rest → Deepens (suc d) (rule r) s ts rest
-    in_first : {d : ℕ} {f g : Form} {s : State} {ts rest : List Token} → Deepens d f s ts rest → Deepens d (f then g) s ts rest
-    in_then : {d : ℕ} {f g : Form} {s mid : State} {ts later rest : List Token} {xs : List Tree} → Reads d f s ts xs mid later → Deepens d g mid later rest → Deepens d (f then g) s ts rest
-    in_left : {d : ℕ} {f g : Form} {s : State} {ts rest : List Token} → goes_left f g (ahead s ts) ≡ true → Deepens d f s ts rest → Deepens d (f or g) s ts rest
-    in_right : {d : ℕ} {f g : Form} {s : State} {ts rest : List Token} → goes_left f g (ahead s ts) ≡ false → Deepens d g s ts rest → Deepens d (f or g) s ts rest
-    in_maybe : {d : ℕ} {f : Form} {s : State} {ts rest : List Token} → mem (ahead s ts) (first T f) ≡ true → Deepens d f s ts rest → Deepens d (maybe f) s ts rest
-    in_turn : {d : ℕ} {f : Form} {s : State} {ts rest : List Token} → mem (ahead s ts) (first T f) ≡ true → Deepens d f s ts rest → Deepens d (many f) s ts rest
-    in_later : {d : ℕ} {f : Form} {s mid : State} {ts later rest : List Token} {xs : List Tree} → mem (ahead s ts) (first T f) ≡ true → Reads d f s ts xs mid later → Deepens d (many f) mid later rest → Deepens d (many f) s ts rest
-    in_chosen : {d : ℕ} {p : Test} {f g : Form} {s : State} {ts rest : List Token} → L.test p s ts ≡ true → Deepens d f s ts rest → Deepens d (when p f g) s ts rest
-    in_other : {d : ℕ} {p : Test} {f g : Form} {s : State} {ts rest : List Token} → L.test p s ts ≡ false → Deepens d g s ts rest → Deepens d (when p f g) s ts rest
-    in_again : {d : ℕ} {p : Test} {f : Form} {s : State} {ts rest : List Token} → L.test p s ts ≡ true → Deepens d f s ts rest → Deepens d (loop p f) s ts rest
-    in_further : {d : ℕ} {p : Test} {f : Form} {s mid : State} {ts later rest : List Token} {xs : List Tree} → L.test p s ts ≡ true → Reads d f s ts xs mid later → Deepens d (loop p f) mid later rest → Deepens d (loop p f) s ts rest
+  -- Meets f s ts rest: the walk comes to the token before rest, and reads it
+  pub data Meets : Form → State → List Token → List Token → Type 0 where
+    at_word : {ks : List ℕ} {a : Act} {s : State} {t : Token} {ts : List Token} → mem (L.kind s t) ks ≡ true → Meets (word ks a) s (t ∷ ts) ts
+    in_rule : {r : Rule} {s : State} {ts rest : List Token} → Meets (L.body r) s ts rest → Meets (rule r) s ts rest
+    in_first : {f g : Form} {s : State} {ts rest : List Token} → Meets f s ts rest → Meets (f then g) s ts rest
+    in_then : {f g : Form} {s mid : State} {ts later rest : List Token} {xs : List Tree} → Reads f s ts xs mid later → Meets g mid later rest → Meets (f then g) s ts rest
+    in_left : {f g : Form} {s : State} {ts rest : List Token} → goes_left f g (ahead s ts) ≡ true → Meets f s ts rest → Meets (f or g) s ts rest
+    in_right : {f g : Form} {s : State} {ts rest : List Token} → goes_left f g (ahead s ts) ≡ false → Meets g s ts rest → Meets (f or g) s ts rest
+    in_maybe : {f : Form} {s : State} {ts rest : List Token} → mem (ahead s ts) (first T f) ≡ true → Meets f s ts rest → Meets (maybe f) s ts rest
+    in_turn : {f : Form} {s : State} {ts rest : List Token} → mem (ahead s ts) (first T f) ≡ true → Meets f s ts rest → Meets (many f) s ts rest
+    in_later : {f : Form} {s mid : State} {ts later rest : List Token} {xs : List Tree} → mem (ahead s ts) (first T f) ≡ true → Reads f s ts xs mid later → Meets (many f) mid later rest → Meets (many f) s ts rest
+    in_chosen : {p : Test} {f g : Form} {s : State} {ts rest : List Token} → L.test p s ts ≡ true → Meets f s ts rest → Meets (when p f g) s ts rest
+    in_other : {p : Test} {f g : Form} {s : State} {ts rest : List Token} → L.test p s ts ≡ false → Meets g s ts rest → Meets (when p f g) s ts rest
+    in_again : {p : Test} {f : Form} {s : State} {ts rest : List Token} → L.test p s ts ≡ true → Meets f s ts rest → Meets (loop p f) s ts rest
+    in_further : {p : Test} {f : Form} {s mid : State} {ts later rest : List Token} {xs : List Tree} → L.test p s ts ≡ true → Reads f s ts xs mid later → Meets (loop p f) mid later rest → Meets (loop p f) s ts rest
 
   -- the end of a nonterminal changes the kind of no word that decides whether it has ended, and nothing where it may be empty
   pub record IsQuiet : Type 0 where

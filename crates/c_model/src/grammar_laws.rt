@@ -1,5 +1,5 @@
 //! The laws of the grammar: each is the contract of a function that does nothing.
-ghost use Rattle.std.specs.Prelude.{◌≡◌, true, List, []};
+ghost use Rattle.std.specs.Prelude.{◌≡◌, ◌<◌, ℕ, true, List, [], length};
 ghost use Rattle.c_model.specs.declared.grammar.Rule.{Rule};
 ghost use Rattle.c_model.specs.declared.grammar.Rule.TheVariants as r;
 ghost use Rattle.c_model.specs.declared.grammar.Terminal.{Terminal};
@@ -11,6 +11,8 @@ ghost use Rattle.c_model.specs.NameScopes.{Scopes, start};
 ghost use Rattle.c_model.specs.SyntaxTree.{c_language};
 ghost use Rattle.c_model.specs.Grammar.{grammar};
 ghost use Rattle.c_model.specs.OpenTable.{opened};
+ghost use Rattle.c_model.specs.OneAnswer.{ExcludeEachOther, HasAnswer};
+ghost use Rattle.c_model.specs.UnitSyntax.{IsTooDeep};
 ghost use Rattle.c_model.specs.Untested.{untested};
 ghost use Rattle.c_model.specs.ParserSets.{tables};
 ghost use Rattle.c_model.specs.ParserTable.{table};
@@ -69,4 +71,21 @@ pub fn tests_add_no_unit()
 #[tactic(auto, using(crate::proofs::RegainUnit::front_back))]
 pub fn tests_add_no_front()
     ensures { (ts rest : List Terminal) → Begins parsed (rule r.Unit) start ts rest → Begins opened (rule r.Unit) start ts rest }
+{}
+
+/// The tokens are a unit, have a first fault, or have a token in too many parts: at most one of the three, in one way.
+#[tactic(auto, using(crate::proofs::OneAnswer::exclude))]
+pub fn one_answer_of_grammar()
+    ensures { (ts : List Terminal) → ExcludeEachOther ts }
+{}
+
+/// They are at least one of the three.
+pub fn some_answer_of_grammar()
+    ensures { (ts : List Terminal) → HasAnswer ts }
+{}
+
+/// What is met in too many parts is a token.
+#[tactic(auto, using(crate::proofs::SomeAnswer::at_token))]
+pub fn too_deep_at_token()
+    ensures { (ts : List Terminal) (k : ℕ) → IsTooDeep ts k → k < length ts }
 {}

@@ -1,6 +1,7 @@
 pub mod TestSteps
-pub mod RuleWeights
 pub mod ReaderSteps
+pub mod ReaderTurns
+pub mod ReaderMeasures
 pub mod Parsed
 pub mod RankLaws
 pub mod TerminalLaws

@@ -1,113 +1,102 @@
 -- From what the reading did to what the tokens are.
-use Rattle.std.proofs.Common.{◌≡◌, ℕ, ◌+◌, ◌-◌, ◌<◌, ◌≤◌, true, List, [], ◌∷◌, ◌++◌, length, refl, ap, sym, subst, ◌∙◌, arith, Err}
+use Rattle.std.proofs.Common.{◌≡◌, ℕ, ◌+◌, ◌-◌, ◌<◌, ◌≤◌, true, false, List, [], ◌∷◌, ◌++◌, length, length-append, refl, ap, sym, subst, ◌∙◌, arith, Err}
 use Rattle.c_model.specs.declared.grammar.Terminal.{Terminal}
 use Rattle.c_model.specs.declared.grammar.Tree.{Tree}
-use Rattle.c_model.specs.GrammarForm.{Form, mem}
+use Rattle.c_model.specs.GrammarForm.{Form}
 use Rattle.c_model.specs.NameScopes.{Scopes, start}
-use Rattle.c_model.specs.Derivation.{Begins}
-use Rattle.c_model.specs.DecidedTable.{decided, within}
-use Rattle.c_model.specs.ParserWalk.{Reads, Fails, Deepens, ahead}
-use Rattle.c_model.specs.ParserSets.{tables, follows}
+use Rattle.c_model.specs.DepthPlace.{Mark, AreShallow, marks, nothing_read}
+use Rattle.c_model.specs.LeftWeights.{IsWalkable}
+use Rattle.c_model.specs.ParserWalk.{Reads}
+use Rattle.c_model.specs.WalkedDerivation.{derivation, front_with}
+use Rattle.c_model.specs.ParserSets.{tables}
 use Rattle.c_model.specs.ParserTests.{parsed}
-use Rattle.c_model.proofs.DecidedGrammar.{unique, sound, begun, read_so_far, refuted, ended, first_fault, no_longer, behind, deep_so_far}
+use Rattle.c_model.specs.UnitSyntax.{unit, IsUnit, IsFault, IsTooDeep, stuck, ended}
+use Rattle.c_model.proofs.DecidedGrammar.{sound, begun, read_so_far, no_longer}
 use Rattle.c_model.proofs.ParserDecided.{quiet, checked}
-use Rattle.c_model.proofs.Forget.{forget_unit, forget_begun_unit}
-use Rattle.c_model.proofs.RegainUnit.{open_fault}
+use Rattle.c_model.proofs.MarkedWalks.{begun_length}
+use Rattle.c_model.proofs.OneAnswer.{unit_walkable}
+use Rattle.c_model.proofs.SomeAnswer.{whole, fault, too_deep}
+use Rattle.c_parser.specs.declared.heights.Heights.{Heights}
+use Rattle.c_parser.specs.declared.heights.Context.{Context}
 use Rattle.c_parser.specs.declared.reader.Reader.{Reader}
 use Rattle.c_parser.specs.declared.reader.Stop.{Stop}
 use Rattle.c_parser.specs.declared.reader.Stop.TheVariants as stop
-use Rattle.c_parser.specs.Reading.{Read, Told}
-use Rattle.c_model.specs.UnitSyntax.{unit, IsUnit, IsFault, IsTooDeep}
+use Rattle.c_parser.specs.Counting.{Stands}
+use Rattle.c_parser.specs.Reading.{Read, Failed, Met, Told}
 
-pub before_end : decided tables unit (0 ∷ []) ≡ true
-unfolding decided within follows mem
-before_end = refl
+pub walkable : IsWalkable unit
+walkable = unit_walkable
 
-at_end : (s : Scopes) → mem (ahead tables parsed s []) (0 ∷ []) ≡ true
-unfolding mem ahead
-at_end s = refl
+abbrev outermost : Context
+outermost = record { parts = 0; chain = false }
 
-whole : (d : ℕ) (ts rest : List Terminal) (xs : List Tree) (new : Scopes) → Reads tables parsed d unit start ts xs new rest → rest ≡ [] → IsUnit ts xs
-whole d ts rest xs new p e =
-    let q = subst (λ z. Reads tables parsed d unit start ts xs new z) e p in
-    let s = sound tables parsed quiet checked q in
-    record {
-      scopes = new;
-      derived = forget_unit ts xs new [] s;
-      alone = record { scopes = new; derived = s; alone = λ ys z k. (unique tables parsed quiet checked q (0 ∷ []) before_end k (at_end z)).trees };
-    }
+abbrev no_heights : Heights
+no_heights = record { piece = 0; ended = 0 }
 
-at_least : (n a b : ℕ) → (n < b → ⊥) → b ≤ a → a ≤ (a - b) + n
-at_least n a b h l = grind arith
+-- the reading began at the start
+pub record Began (context : Context) (s : Scopes) (h : Heights) : Type 0 where
+  pub context_is : context ≡ record { parts = 0; chain = false }
+  pub scopes : s ≡ start
+  pub heights : h ≡ record { piece = 0; ended = 0 }
 
-faults : (d : ℕ) (ts rest : List Terminal) → Fails tables parsed d unit start ts rest → IsFault ts (length ts - length rest)
-faults d ts rest p =
-    let b = read_so_far tables parsed quiet checked p in
-    let l = no_longer tables parsed quiet checked b in
-    let h = subst (λ z. Begins parsed unit start ts z) (behind tables parsed quiet checked b) b in
-    record {
-      begun = forget_begun_unit ts _ h;
-      first = open_fault ts _ (record {
-        within = omega arith;
-        begun = h;
-        no_more = λ z e. at_least (length z) (length ts) (length rest) (λ k. first_fault tables parsed quiet checked p (0 ∷ []) before_end e k) l;
-        not_whole = λ xs new k. refuted tables parsed quiet checked p (0 ∷ []) before_end k (at_end new);
-      });
-    }
-
-more_left : (d : ℕ) (ts rest : List Terminal) (xs : List Tree) (new : Scopes) → Reads tables parsed d unit start ts xs new rest → 0 < length rest → IsFault ts (length ts - length rest)
-more_left d ts rest xs new p n =
-    let b = begun tables parsed quiet checked (sound tables parsed quiet checked p) in
-    let l = no_longer tables parsed quiet checked b in
-    let h = subst (λ z. Begins parsed unit start ts z) (behind tables parsed quiet checked b) b in
-    record {
-      begun = forget_begun_unit ts _ h;
-      first = open_fault ts _ (record {
-        within = omega arith;
-        begun = h;
-        no_more = λ z k. at_least (length z) (length ts) (length rest) (λ h. ended tables parsed quiet checked p (0 ∷ []) before_end k h) l;
-        not_whole = λ ys s k. ended tables parsed quiet checked p (0 ∷ []) before_end (begun tables parsed quiet checked k) n;
-      });
-    }
+stands : Stands outermost no_heights 0 nothing_read
+stands = record { parts = omega arith; heights = record { height = omega arith; ended = omega arith }; shallow = tt }
 
 nil_of : (ts : List Terminal) → length ts ≡ 0 → ts ≡ []
 nil_of [] h = refl
 nil_of (t ∷ ts) h = absurd (omega arith)
 
-pub read_le : (d : ℕ) (f : Form) (old new : Reader) (before later : List Tree) → Read d f old new before later → length new.rest.now ≤ length old.rest.now
-read_le d f old new before later p = no_longer tables parsed quiet checked (begun tables parsed quiet checked (sound tables parsed quiet checked p.reads))
+from_start : (P : Context → Scopes → Heights → Type 0) (context : Context) (s : Scopes) (h : Heights) → Began context s h → P context s h → P outermost start no_heights
+from_start P context s h b p = subst (λ z. P outermost start z) b.heights (subst (λ z. P outermost z h) b.scopes (subst (λ z. P z s h) b.context_is p))
 
-pub fails_le : (d : ℕ) (f : Form) (s : Scopes) (ts rest : List Terminal) → Fails tables parsed d f s ts rest → length rest ≤ length ts
-fails_le d f s ts rest p = no_longer tables parsed quiet checked (read_so_far tables parsed quiet checked p)
+pub ok_whole : (context : Context) (s : Scopes) (ts : List Terminal) (h : Heights) (new : Reader) (before later : List Tree) → Began context s h → before ≡ [] → Read unit context s ts h new before later → length new.rest.now ≡ 0 → IsUnit ts later
+ok_whole context s ts h new before later b e p n =
+    let r : Read unit outermost start ts no_heights new before later = from_start (λ c s h. Read unit c s ts h new before later) context s h b p in
+    subst (λ xs. IsUnit ts xs) (sym (r.put ∙ ap (λ z. z ++ r.trees) e)) (whole r.reads (nil_of _ n) (r.kept 0 nothing_read stands).shallow)
 
-pub deep_le : (d : ℕ) (f : Form) (s : Scopes) (ts rest : List Terminal) → Deepens tables parsed d f s ts rest → length rest ≤ length ts
-deep_le d f s ts rest p = no_longer tables parsed quiet checked (deep_so_far tables parsed quiet checked p)
+left_over : (ts : List Terminal) (xs : List Tree) (new : Scopes) (rest : List Terminal) (p : Reads tables parsed unit start ts xs new rest) → AreShallow (marks parsed (derivation tables parsed p)) → (length rest ≡ 0 → ⊥) → IsFault ts (length ts - length rest)
+left_over ts xs new [] p a n = absurd (n refl)
+left_over ts xs new (t ∷ rest) p a n = fault (ended p) a
 
-pub deep_at : (s : Scopes) (ts rest : List Terminal) → s ≡ start → Deepens tables parsed 1000 unit s ts rest → IsTooDeep ts (length ts - length rest)
-deep_at s ts rest h p =
-    let q = subst (λ z. Deepens tables parsed 1000 unit z ts rest) h p in
-    let b = deep_so_far tables parsed quiet checked q in
-    let e = behind tables parsed quiet checked b in
-    record {
-      within = omega arith;
-      begun = forget_begun_unit ts _ (subst (λ z. Begins parsed unit start ts z) e b);
-      deep = subst (λ z. Deepens tables parsed 1000 unit start ts z) e q;
-    }
+pub ok_more : (context : Context) (s : Scopes) (ts : List Terminal) (h : Heights) (new : Reader) (before later : List Tree) → Began context s h → Read unit context s ts h new before later → (length new.rest.now ≡ 0 → ⊥) → IsFault ts (length ts - length new.rest.now)
+ok_more context s ts h new before later b p n =
+    let r : Read unit outermost start ts no_heights new before later = from_start (λ c s h. Read unit c s ts h new before later) context s h b p in
+    left_over ts _ _ _ r.reads (r.kept 0 nothing_read stands).shallow n
 
-pub ok_whole : (d : ℕ) (old new : Reader) (before later : List Tree) → old.names ≡ start → before ≡ [] → Read d unit old new before later → length new.rest.now ≡ 0 → IsUnit old.rest.now later
-ok_whole d old new before later h b p n =
-    let q = subst (λ s. Reads tables parsed d unit s old.rest.now p.trees new.names new.rest.now) h p.reads in
-    let w = whole d old.rest.now new.rest.now p.trees new.names q (nil_of _ n) in
-    subst (λ xs. IsUnit old.rest.now xs) (sym (p.put ∙ ap (λ z. z ++ p.trees) b)) w
+pub err_fault : (context : Context) (s : Scopes) (ts : List Terminal) (h : Heights) (rest : List Terminal) → Began context s h → Failed unit context s ts h rest → IsFault ts (length ts - length rest)
+err_fault context s ts h rest b p =
+    let r : Failed unit outermost start ts no_heights rest = from_start (λ c s h. Failed unit c s ts h rest) context s h b p in
+    fault (stuck r.fails) (r.shallow 0 nothing_read stands)
 
-pub ok_more : (d : ℕ) (old new : Reader) (before later : List Tree) → old.names ≡ start → Read d unit old new before later → (length new.rest.now ≡ 0 → ⊥) → IsFault old.rest.now (length old.rest.now - length new.rest.now)
-ok_more d old new before later h p n = more_left d _ _ _ _ (subst (λ s. Reads tables parsed d unit s old.rest.now p.trees new.names new.rest.now) h p.reads) (omega arith)
+-- how many tokens are read before the one that is met
+met_length : (f : Form) (context : Context) (s : Scopes) (ts : List Terminal) (h : Heights) (rest : List Terminal) (p : Met f context s ts h rest) (all before : List Mark) (m : Mark) → all ≡ before ++ m ∷ [] → length all + length p.more ≡ length ts → (length before ≡ length ts - length rest) × (length rest ≤ length ts)
+met_length f context s ts h rest p all before m e l =
+    let a = ap length e ∙ length-append before (m ∷ []) in
+    let b = ap length p.next in
+    (omega (arith, a, b, l), omega (arith, a, b, l))
 
-pub err_fault : (d : ℕ) (s : Scopes) (ts rest : List Terminal) → s ≡ start → Fails tables parsed d unit s ts rest → IsFault ts (length ts - length rest)
-err_fault d s ts rest h p = faults d ts rest (subst (λ s. Fails tables parsed d unit s ts rest) h p)
+pub err_deep : (context : Context) (s : Scopes) (ts : List Terminal) (h : Heights) (rest : List Terminal) → Began context s h → Met unit context s ts h rest → IsTooDeep ts (length ts - length rest)
+err_deep context s ts h rest b p =
+    let r : Met unit outermost start ts no_heights rest = from_start (λ c s h. Met unit c s ts h rest) context s h b p in
+    let d = r.deep 0 nothing_read stands in
+    let q = begun_length parsed (front_with tables parsed r.meets) false 0 nothing_read in
+    subst (λ n. IsTooDeep ts n) (met_length _ _ _ _ _ _ r _ d.before d.mark d.split (omega (arith, q))).0 (too_deep r.meets d)
 
-pub told_fault : (d : ℕ) (f : Form) (old new : Reader) (before later : List Tree) (e : Stop) → e ≡ stop.Fault → Told d f old new before later (Err e) → Fails tables parsed d f old.names old.rest.now new.rest.now
-told_fault d f old new before later e h q = subst (λ x. Told d f old new before later (Err x)) h q
+pub read_le : (f : Form) (context : Context) (s : Scopes) (ts : List Terminal) (h : Heights) (new : Reader) (before later : List Tree) → Read f context s ts h new before later → length new.rest.now ≤ length ts
+read_le f context s ts h new before later p = no_longer tables parsed quiet checked (begun tables parsed quiet checked (sound tables parsed quiet checked p.reads))
 
-pub told_deep : (d : ℕ) (f : Form) (old new : Reader) (before later : List Tree) (e : Stop) → e ≡ stop.Deep → Told d f old new before later (Err e) → Deepens tables parsed d f old.names old.rest.now new.rest.now
-told_deep d f old new before later e h q = subst (λ x. Told d f old new before later (Err x)) h q
+pub fails_le : (f : Form) (context : Context) (s : Scopes) (ts : List Terminal) (h : Heights) (rest : List Terminal) → Failed f context s ts h rest → length rest ≤ length ts
+fails_le f context s ts h rest p = no_longer tables parsed quiet checked (read_so_far tables parsed quiet checked p.fails)
+
+pub deep_le : (context : Context) (s : Scopes) (ts : List Terminal) (h : Heights) (rest : List Terminal) → Began context s h → Met unit context s ts h rest → length rest ≤ length ts
+deep_le context s ts h rest b p =
+    let r : Met unit outermost start ts no_heights rest = from_start (λ c s h. Met unit c s ts h rest) context s h b p in
+    let d = r.deep 0 nothing_read stands in
+    let q = begun_length parsed (front_with tables parsed r.meets) false 0 nothing_read in
+    (met_length _ _ _ _ _ _ r _ d.before d.mark d.split (omega (arith, q))).1
+
+pub told_fault : (f : Form) (context : Context) (old new : Reader) (before later : List Tree) (e : Stop) → e ≡ stop.Fault → Told f context old new before later (Err e) → Failed f context old.names old.rest.now old.heights new.rest.now
+told_fault f context old new before later e h q = subst (λ x. Told f context old new before later (Err x)) h q
+
+pub told_deep : (f : Form) (context : Context) (old new : Reader) (before later : List Tree) (e : Stop) → e ≡ stop.Deep → Told f context old new before later (Err e) → Met f context old.names old.rest.now old.heights new.rest.now
+told_deep f context old new before later e h q = subst (λ x. Told f context old new before later (Err x)) h q

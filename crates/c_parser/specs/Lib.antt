@@ -1,5 +1,5 @@
 pub mod View
-pub mod Weight
+pub mod Counting
 pub mod Reading
 pub mod Parsing
 pub mod Ranks

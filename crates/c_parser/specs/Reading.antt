@@ -1,45 +1,68 @@
 -- What the reading of a form shows.
-use Rattle.std.specs.Prelude.{ℕ, ◌≡◌, ◌+◌, true, false, List, ◌++◌, Result, Ok, Err, Option, Some, None}
+use Rattle.std.specs.Prelude.{ℕ, ◌≡◌, ◌≤◌, Bool, if◌then◌else◌, false, List, [], ◌∷◌, ◌++◌, length, Result, Ok, Err}
+use Rattle.c_parser.specs.declared.heights.Heights.{Heights}
+use Rattle.c_parser.specs.declared.heights.Context.{Context}
 use Rattle.c_parser.specs.declared.reader.Reader.{Reader}
 use Rattle.c_parser.specs.declared.reader.Stop.{Stop}
 use Rattle.c_parser.specs.declared.reader.Stop.TheVariants as stop
-use Rattle.c_model.specs.declared.grammar.Rule.{Rule}
 use Rattle.c_model.specs.declared.grammar.Terminal.{Terminal}
 use Rattle.c_model.specs.declared.grammar.Tree.{Tree}
 use Rattle.c_model.specs.GrammarForm.{Form}
-use Rattle.c_model.specs.Grammar.{is_part}
 use Rattle.c_model.specs.NameScopes.{Scopes}
-use Rattle.c_model.specs.DecidedTable.{decided}
-use Rattle.c_model.specs.ParserWalk.{Reads, Fails, Deepens}
+use Rattle.c_model.specs.DepthPlace.{Piece, AreShallow, EndsDeep, nothing_read, joined, chained, grown, grown_so_far}
+use Rattle.c_model.specs.ParserWalk.{Reads, Fails, Meets}
+use Rattle.c_model.specs.WalkedDerivation.{derivation, front, front_with}
 use Rattle.c_model.specs.ParserSets.{tables}
 use Rattle.c_model.specs.ParserTests.{parsed}
+use Rattle.c_parser.specs.Counting.{Stands}
 
--- the form was read, and its trees stand behind those before
-pub record Read (d : ℕ) (f : Form) (old new : Reader) (before later : List Tree) : Type 0 where
-  pub trees : List Tree
-  pub reads : Reads tables parsed d f old.names old.rest.now trees new.names new.rest.now
-  pub put : later ≡ before ++ trees
-
--- what each answer tells of the walk
-abbrev pub Told : ℕ → Form → Reader → Reader → List Tree → List Tree → Result (Unit {0}) Stop → Type 0
-Told d f old new before later (Ok _) = Read d f old new before later
-Told d f old new before later (Err stop.Fault) = Fails tables parsed d f old.names old.rest.now new.rest.now
-Told d f old new before later (Err stop.Deep) = Deepens tables parsed d f old.names old.rest.now new.rest.now
-Told d f old new before later (Err stop.Memory) = Unit {0}
-
--- one token decides each choice in it
-abbrev pub IsDecided : Form → Type 0
-IsDecided f = (F : List ℕ) × (decided tables f F ≡ true)
-
--- how many parts may be opened inside a nonterminal, where d may be opened at it
-abbrev pub Inner : Rule → ℕ → Option ℕ → Type 0
-Inner rule d (Some inner) = (is_part rule ≡ true → d ≡ inner + 1) × (is_part rule ≡ false → d ≡ inner)
-Inner rule d None = (is_part rule ≡ true) × (d ≡ 0)
-
--- after some turns of a repeated form: what comes next goes on from the start
-pub record Turning (d : ℕ) (f : Form) (old new : Reader) (before later : List Tree) : Type 0 where
+-- the form was read: its trees stand behind those before, and the heights are those of the piece with it
+pub record Read (f : Form) (context : Context) (s : Scopes) (ts : List Terminal) (h : Heights) (new : Reader) (before later : List Tree) : Type 0 where
   pub trees : List Tree
   pub put : later ≡ before ++ trees
-  pub reads : (more : List Tree) (s : Scopes) (rest : List Terminal) → Reads tables parsed d f new.names new.rest.now more s rest → Reads tables parsed d f old.names old.rest.now (trees ++ more) s rest
-  pub fails : (rest : List Terminal) → Fails tables parsed d f new.names new.rest.now rest → Fails tables parsed d f old.names old.rest.now rest
-  pub deep : (rest : List Terminal) → Deepens tables parsed d f new.names new.rest.now rest → Deepens tables parsed d f old.names old.rest.now rest
+  pub reads : Reads tables parsed f s ts trees new.names new.rest.now
+  pub kept : (n : ℕ) (p : Piece) → Stands context h n p → Stands context new.heights n (grown parsed context.chain n (derivation tables parsed reads) p)
+
+-- it fails at the next token, and none before it is met in too many parts
+pub record Failed (f : Form) (context : Context) (s : Scopes) (ts : List Terminal) (h : Heights) (rest : List Terminal) : Type 0 where
+  pub fails : Fails tables parsed f s ts rest
+  pub shallow : (n : ℕ) (p : Piece) → Stands context h n p → AreShallow (grown_so_far parsed context.chain n (front tables parsed fails) p).marks
+
+-- the next token is read in it, and is the first that is met in too many parts
+pub record Met (f : Form) (context : Context) (s : Scopes) (ts : List Terminal) (h : Heights) (rest : List Terminal) : Type 0 where
+  pub token : Terminal
+  pub more : List Terminal
+  pub next : rest ≡ token ∷ more
+  pub meets : Meets tables parsed f s ts more
+  pub deep : (n : ℕ) (p : Piece) → Stands context h n p → EndsDeep (grown_so_far parsed context.chain n (front_with tables parsed meets) p).marks
+
+-- what each answer tells
+abbrev pub Told : Form → Context → Reader → Reader → List Tree → List Tree → Result (Unit {0}) Stop → Type 0
+Told f context old new before later (Ok _) = Read f context old.names old.rest.now old.heights new before later
+Told f context old new before later (Err stop.Fault) = Failed f context old.names old.rest.now old.heights new.rest.now
+Told f context old new before later (Err stop.Deep) = Met f context old.names old.rest.now old.heights new.rest.now
+Told f context old new before later (Err stop.Memory) = Unit {0}
+
+-- likewise of one more turn of a form, which makes a chain higher
+pub record ReadTurn (f : Form) (context : Context) (old new : Reader) (before later : List Tree) : Type 0 where
+  pub trees : List Tree
+  pub put : later ≡ before ++ trees
+  pub reads : Reads tables parsed f old.names old.rest.now trees new.names new.rest.now
+  pub kept : (n : ℕ) (p : Piece) → Stands context old.heights n p → Stands context new.heights n (if context.chain then chained p (grown parsed false n (derivation tables parsed reads) nothing_read) else grown parsed false n (derivation tables parsed reads) p)
+
+pub record FailedTurn (f : Form) (context : Context) (old new : Reader) : Type 0 where
+  pub fails : Fails tables parsed f old.names old.rest.now new.rest.now
+  pub shallow : (n : ℕ) (p : Piece) → Stands context old.heights n p → AreShallow (if context.chain then joined p (grown_so_far parsed false n (front tables parsed fails) nothing_read) else grown_so_far parsed false n (front tables parsed fails) p).marks
+
+pub record MetTurn (f : Form) (context : Context) (old new : Reader) : Type 0 where
+  pub token : Terminal
+  pub more : List Terminal
+  pub next : new.rest.now ≡ token ∷ more
+  pub meets : Meets tables parsed f old.names old.rest.now more
+  pub deep : (n : ℕ) (p : Piece) → Stands context old.heights n p → EndsDeep (if context.chain then joined p (grown_so_far parsed false n (front_with tables parsed meets) nothing_read) else grown_so_far parsed false n (front_with tables parsed meets) p).marks
+
+abbrev pub ToldTurn : Form → Context → Reader → Reader → List Tree → List Tree → Result (Unit {0}) Stop → Type 0
+ToldTurn f context old new before later (Ok _) = ReadTurn f context old new before later
+ToldTurn f context old new before later (Err stop.Fault) = FailedTurn f context old new
+ToldTurn f context old new before later (Err stop.Deep) = MetTurn f context old new
+ToldTurn f context old new before later (Err stop.Memory) = Unit {0}

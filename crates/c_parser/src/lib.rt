@@ -6,6 +6,7 @@ mod declarations;
 mod entries;
 mod errors;
 mod forms;
+mod heights;
 mod kinds;
 mod lookahead;
 mod names;

@@ -1,20 +1,22 @@
 //! The reading of the parser's table.
 
-ghost use Rattle.std.specs.Prelude.{◌≡◌, ◌||◌, ℕ};
-ghost use Rattle.c_model.specs.GrammarForm.{mem, word};
+ghost use Rattle.std.specs.Prelude.{◌≡◌};
+ghost use Rattle.c_model.specs.GrammarForm as shape;
+ghost use Rattle.c_model.specs.GrammarForm.{mem, word, many, loop};
 ghost use Rattle.c_model.specs.DecidedTable as decided;
+ghost use Rattle.c_model.specs.LeftWeights.{IsWalkable};
 ghost use Rattle.c_model.specs.ParserWalk as walk;
-ghost use Rattle.c_model.specs.ParserSets.{tables, hollow, firsts};
+ghost use Rattle.c_model.specs.ParserSets.{tables};
 ghost use Rattle.c_model.specs.ParserTests.{parsed};
-ghost use Rattle.c_model.specs.declared.grammar.Rule.{Rule};
 ghost use Rattle.c_parser.specs.View.{form};
-ghost use Rattle.c_parser.specs.Reading.{Told, IsDecided, Inner};
+ghost use Rattle.c_parser.specs.Reading.{Told, ToldTurn};
 
 use crate::forms::{Form, body};
+use crate::heights::{Context, Heights};
 use crate::lookahead::{passes, split};
 use crate::names::Names;
-use crate::sets::{is_hollow, is_one, is_part, may_begin};
-use c_model::grammar::{Act, Rule, Terminal, Tree};
+use crate::sets::{is_hollow, is_one, may_begin};
+use c_model::grammar::{Act, Rule, Terminal, Test, Tree};
 use sqlite_items::Items;
 use std::alloc::{AllocError, Global};
 
@@ -23,7 +25,7 @@ use std::alloc::{AllocError, Global};
 pub enum Stop {
     /// There is no memory.
     Memory,
-    /// The next token stands in too many nested parts.
+    /// The next token is in its place and is the first that is met in too many parts.
     Deep,
     /// The next token is not in its place, or the tokens end too early.
     Fault,
@@ -40,11 +42,12 @@ impl From<AllocError> for Stop {
     }
 }
 
-/// What is left to read, and the scopes.
+/// What is left to read, the scopes, and the heights of what has been read.
 #[derive(Debug, Drop)]
 pub struct Reader<'a> {
     pub rest: &'a [Terminal],
     pub names: Names,
+    pub heights: Heights,
 }
 
 impl<'a> Reader<'a> {
@@ -60,8 +63,14 @@ impl<'a> Reader<'a> {
     }
 
     /// Reads a token of one of the kinds.
-    fn word(&mut self, kinds: &[u8], act: Act, out: &mut Items<Tree>) -> Result<(), Stop>
-        ensures { (d : ℕ) → Told d (word kinds.now act) self.old self.new out.old out.new result }
+    fn word(
+        &mut self,
+        kinds: &[u8],
+        act: Act,
+        context: Context,
+        out: &mut Items<Tree>,
+    ) -> Result<(), Stop>
+        ensures { Told (word kinds.now act) context self.old self.new out.old out.new result }
     {
         match split(self.rest) {
             None => Err(Stop::Fault),
@@ -69,8 +78,12 @@ impl<'a> Reader<'a> {
                 if !is_one(kinds, self.names.kind(token)) {
                     return Err(Stop::Fault);
                 }
+                if context.is_too_deep(self.heights) {
+                    return Err(Stop::Deep);
+                }
                 self.names.after(act, token)?;
                 self.rest = rest;
+                self.heights = self.heights.behind_token();
                 out.push(Tree::Leaf(token))?;
                 Ok(())
             }
@@ -114,13 +127,6 @@ fn begins(f: &Form, ahead: u8) -> bool
     }
 }
 
-/// Whether the nonterminal would take what comes next.
-fn goes_on(rule: Rule, ahead: u8) -> bool
-    ensures { result ≡ (hollow rule || mem ahead (firsts rule)) }
-{
-    is_hollow(rule) || may_begin(rule, ahead)
-}
-
 /// Whether the first of two alternatives is taken.
 #[tactic(auto, unfolding(c_model::specs::ParserWalk::goes_left))]
 fn goes_left(f: &Form, g: &Form, ahead: u8) -> bool
@@ -129,83 +135,132 @@ fn goes_left(f: &Form, g: &Form, ahead: u8) -> bool
     begins(f, ahead) || nullable(f) && !begins(g, ahead)
 }
 
-/// How many parts may still be opened inside the nonterminal, where it may be opened itself.
-fn inner_depth(rule: Rule, depth: usize) -> Option<usize>
-    ensures { Inner rule depth result }
+/// Reads what the nonterminal derives, and puts its tree behind the others.
+#[cycle(read)]
+fn read_rule(
+    alloc: Global,
+    reader: &mut Reader<'_>,
+    rule: Rule,
+    context: Context,
+    out: &mut Items<Tree>,
+) -> Result<(), Stop>
+    ensures { Told (shape.rule rule) context reader.old reader.new out.old out.new result }
 {
-    if !is_part(rule) {
-        return Some(depth);
+    let outer = reader.heights;
+    reader.heights = outer.inside();
+    let mut inner = Items::new(alloc);
+    read(alloc, reader, body(rule), context.inside(rule), &mut inner)?;
+    reader.heights = reader.heights.behind_rule(rule, outer);
+    reader.names.close(rule)?;
+    out.push(Tree::Node(rule, inner))?;
+    Ok(())
+}
+
+/// Reads the form once more.
+#[cycle(read)]
+fn read_turn(
+    alloc: Global,
+    reader: &mut Reader<'_>,
+    f: &Form,
+    context: Context,
+    out: &mut Items<Tree>,
+) -> Result<(), Stop>
+    requires { IsWalkable (form f.now) }
+    ensures { ToldTurn (form f.now) context reader.old reader.new out.old out.new result }
+{
+    if !context.chain {
+        return read(alloc, reader, f, context, out);
     }
-    if depth == 0 { None } else { Some(depth - 1) }
+    let outer = reader.heights;
+    reader.heights = outer.inside();
+    read(alloc, reader, f, context.turn(), out)?;
+    reader.heights = reader.heights.behind_turn(outer);
+    Ok(())
+}
+
+/// Reads the form as often as it begins with what comes next.
+#[cycle(read)]
+fn read_many(
+    alloc: Global,
+    reader: &mut Reader<'_>,
+    f: &Form,
+    context: Context,
+    out: &mut Items<Tree>,
+) -> Result<(), Stop>
+    requires { IsWalkable (many (form f.now)) }
+    ensures { Told (many (form f.now)) context reader.old reader.new out.old out.new result }
+{
+    while begins(f, reader.ahead()) {
+        read_turn(alloc, reader, f, context, out)?;
+    }
+    Ok(())
+}
+
+/// Reads the form as often as the test holds.
+#[cycle(read)]
+fn read_loop(
+    alloc: Global,
+    reader: &mut Reader<'_>,
+    test: Test,
+    f: &Form,
+    context: Context,
+    out: &mut Items<Tree>,
+) -> Result<(), Stop>
+    requires { IsWalkable (loop test (form f.now)) }
+    ensures { Told (loop test (form f.now)) context reader.old reader.new out.old out.new result }
+{
+    while passes(test, &reader.names, reader.rest) {
+        read_turn(alloc, reader, f, context, out)?;
+    }
+    Ok(())
 }
 
 /// Reads what the form derives, and puts the trees behind the others.
 ///
-/// It takes the choices of the table by the next token and by its tests, reads each token once, and opens at most
-/// `depth` parts inside each other. On a fault or a part too many `reader.rest` begins with the token where it stands.
+/// It takes the choices of the table by the next token and by its tests, and reads each token once. It stops at the first
+/// token with which the table can't go on, or before it at the first that is met in too many parts: `reader.rest` begins
+/// with that token.
+#[cycle(read)]
 pub fn read(
     alloc: Global,
     reader: &mut Reader<'_>,
     f: &Form,
-    depth: usize,
+    context: Context,
     out: &mut Items<Tree>,
 ) -> Result<(), Stop>
-    requires { IsDecided (form f.now) }
-    ensures { Told depth (form f.now) reader.old reader.new out.old out.new result }
+    requires { IsWalkable (form f.now) }
+    ensures { Told (form f.now) context reader.old reader.new out.old out.new result }
 {
     match f {
-        Form::Word(kinds, act) => reader.word(kinds, *act, out),
-        Form::Rule(rule) => match inner_depth(*rule, depth) {
-            None => Err(if goes_on(*rule, reader.ahead()) {
-                Stop::Deep
-            } else {
-                Stop::Fault
-            }),
-            Some(inside) => {
-                let mut inner = Items::new(alloc);
-                read(alloc, reader, body(*rule), inside, &mut inner)?;
-                reader.names.close(*rule)?;
-                out.push(Tree::Node(*rule, inner))?;
-                Ok(())
-            }
-        },
+        Form::Word(kinds, act) => reader.word(kinds, *act, context, out),
+        Form::Rule(rule) => read_rule(alloc, reader, *rule, context, out),
         Form::Empty => Ok(()),
         Form::Then(f, g) => {
-            read(alloc, reader, f, depth, out)?;
-            read(alloc, reader, g, depth, out)
+            read(alloc, reader, f, context, out)?;
+            read(alloc, reader, g, context, out)
         }
         Form::Or(f, g) => {
             if goes_left(f, g, reader.ahead()) {
-                read(alloc, reader, f, depth, out)
+                read(alloc, reader, f, context, out)
             } else {
-                read(alloc, reader, g, depth, out)
+                read(alloc, reader, g, context, out)
             }
         }
         Form::Maybe(f) => {
             if begins(f, reader.ahead()) {
-                read(alloc, reader, f, depth, out)
+                read(alloc, reader, f, context, out)
             } else {
                 Ok(())
             }
         }
-        Form::Many(part) => {
-            while begins(part, reader.ahead()) {
-                read(alloc, reader, part, depth, out)?;
-            }
-            Ok(())
-        }
+        Form::Many(f) => read_many(alloc, reader, f, context, out),
         Form::When(test, f, g) => {
             if passes(*test, &reader.names, reader.rest) {
-                read(alloc, reader, f, depth, out)
+                read(alloc, reader, f, context, out)
             } else {
-                read(alloc, reader, g, depth, out)
+                read(alloc, reader, g, context, out)
             }
         }
-        Form::Loop(test, item) => {
-            while passes(*test, &reader.names, reader.rest) {
-                read(alloc, reader, item, depth, out)?;
-            }
-            Ok(())
-        }
+        Form::Loop(test, f) => read_loop(alloc, reader, *test, f, context, out),
     }
 }

@@ -3,6 +3,7 @@
 ghost use Rattle.std.specs.Prelude.{◌≡◌, ◌||◌};
 ghost use Rattle.c_model.specs.GrammarForm.{mem};
 ghost use Rattle.c_model.specs.ParserSets as spec;
+ghost use Rattle.c_model.specs.DepthPlace as depth;
 ghost use Rattle.c_model.specs.Grammar as grammar;
 ghost use Rattle.c_model.specs.declared.grammar.Rule.TheVariants as rule;
 
@@ -51,6 +52,27 @@ pub fn is_part(rule: Rule) -> bool
         | Rule::Cast
         | Rule::Unary
         | Rule::Typeof => true,
+        _ => false,
+    }
+}
+
+/// Whether the repetition in the nonterminal is a chain that is read from the left.
+pub fn is_chain(rule: Rule) -> bool
+    ensures { result ≡ depth.is_chain rule }
+{
+    match rule {
+        Rule::Oror
+        | Rule::Andand
+        | Rule::Bor
+        | Rule::Bxor
+        | Rule::Band
+        | Rule::Equal
+        | Rule::Rel
+        | Rule::Shift
+        | Rule::Sum
+        | Rule::Product
+        | Rule::Expr
+        | Rule::Postfix => true,
         _ => false,
     }
 }

@@ -3,6 +3,7 @@
 ghost use Rattle.c_parser.specs.Parsing.{Parsed};
 
 use crate::forms::Form;
+use crate::heights::{Context, Heights};
 use crate::names::Names;
 use crate::reader::{Reader, Stop, read};
 use c_model::grammar::{Rule, Terminal, Tree};
@@ -14,7 +15,8 @@ use std::alloc::Global;
 pub enum Refusal {
     /// There is no memory.
     Memory,
-    /// The token of this rank begins a part inside 1,000 others.
+    /// M06: the token of this rank is the first that lies in more than 1,000 parts, or just before which a part ended that
+    /// is more than 1,000 high; it stands before the first fault.
     Deep(usize),
     /// S01: the token of this rank is the first with which no translation unit can go on; the number of tokens, where they
     /// are the front of a unit and no unit.
@@ -22,9 +24,6 @@ pub enum Refusal {
 }
 
 const UNIT: &Form = &Form::Rule(Rule::Unit);
-
-/// How many parts may stand inside each other.
-const MAX_DEPTH: usize = 1000;
 
 /// The trees of a translation unit (ISO/IEC 9899:2024, 6.9), which are one, or why there is none.
 ///
@@ -37,9 +36,16 @@ pub fn parse_terminals(alloc: Global, tokens: &[Terminal]) -> Result<Items<Tree>
     let mut reader = Reader {
         rest: tokens,
         names: Names::new(alloc),
+        heights: Heights::none(),
     };
     let mut trees = Items::new(alloc);
-    match read(alloc, &mut reader, UNIT, MAX_DEPTH, &mut trees) {
+    match read(
+        alloc,
+        &mut reader,
+        UNIT,
+        Context::outermost(),
+        &mut trees,
+    ) {
         Ok(()) => {
             if reader.rest.is_empty() {
                 Ok(trees)
