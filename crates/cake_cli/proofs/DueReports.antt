@@ -29,7 +29,7 @@ use Rattle.cake_cli.specs.Reader as reader
 use Rattle.cake_cli.specs.ReadsAs.{ReadsAs}
 use Rattle.cake_cli.specs.Reports.{IsReport, ReportsDone, ReportsStop, ReportsPlan, stop_of}
 use Rattle.cake_cli.proofs.ReadCounts.{IsOver, count_reached}
-use Rattle.cake_cli.proofs.Grammar.{answered}
+use Rattle.c_model.proofs.SomeAnswer.{answered}
 use Rattle.cake_cli.proofs.Verdicts.{reading_says}
 
 -- ---- what preprocessing comes to

@@ -5,7 +5,6 @@ pub mod Steps
 pub mod Complete
 pub mod Sound
 pub mod Verdicts
-pub mod Grammar
 pub mod Runs
 pub mod DueReports
 pub mod UniqueVerdict

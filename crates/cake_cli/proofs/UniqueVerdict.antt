@@ -15,7 +15,7 @@ use Rattle.c_model.specs.Processes.{Stop, broken, passed, unread, Refusal}
 use Rattle.c_model.specs.TerminalsOf.{terminals_of}
 use Rattle.c_model.specs.Verdict.{Verdict, Stopped, NotBuilt, IsCore, HasTree, IsSyntaxStop, IsVerdictOn, IsVerdictOf, IsVerdict}
 use Rattle.cake_cli.proofs.Complete.{one_unit}
-use Rattle.cake_cli.proofs.Grammar.{exclude}
+use Rattle.c_model.proofs.OneAnswer.{exclude}
 
 -- a front of what can go on can go on
 shorter : (ts : List CTok) (m n : ℕ) → m ≤ n → CanGoOn (take n ts) → CanGoOn (take m ts)
