@@ -2,7 +2,7 @@
 """The examples of docs/RULES.md on the real command.
 
 Each `### RULE` has a block of C and the line that the command ends with. Rules P and L01 and the limits
-are run with -E, the other L rules without. Prints the count; exits with 1 where an answer differs.
+of preprocessing are run with -E, the other L rules, S01 and M06 without. Prints the count; exits with 1 where an answer differs.
 """
 import os
 import re
@@ -23,7 +23,7 @@ def main():
         for rule, text, line in examples:
             with open(os.path.join(folder, "a.c"), "w", encoding="ascii") as file:
                 file.write(text)
-            expand = rule[0] in "PM" or rule == "L01"
+            expand = rule[0] in "PM" and rule != "M06" or rule == "L01"
             words = ["-E", "a.c"] if expand else ["a.c"]
             done = subprocess.run([CAKE, *words], cwd=folder, capture_output=True, check=False)
             said = done.stderr.decode().splitlines()
@@ -32,7 +32,7 @@ def main():
                 wrong += 1
                 print(f"{rule}: status {done.returncode}, err {said}, out {done.stdout[:60]!r}")
     print(f"rules: {len(examples)} examples, {wrong} differ")
-    return 1 if wrong or len(examples) < 30 else 0
+    return 1 if wrong or len(examples) < 32 else 0
 
 
 if __name__ == "__main__":

@@ -76,3 +76,4 @@ pub mod PpNumberLaws
 pub mod LiteralLaws
 pub mod Releases
 pub mod FirstUnitTyped
+pub mod ConvertedKinds

@@ -19,8 +19,7 @@ use Rattle.c_model.specs.Vocabulary.{word_number, punctuator_number, is_punctuat
 use Rattle.c_model.specs.PpSteps.{step_at}
 use Rattle.c_model.specs.PpTokens.{PpToken, tokens_of}
 use Rattle.c_model.specs.CTokens.{converted, c_tokens_of}
-use Rattle.c_model.specs.FirstUnit.{spelled, head_words, IsConstant, IsSum, IsProduct, IsPrimary, one_product, added, one_primary, multiplied, constant, int_constant, int_operation}
-use Rattle.c_model.specs.Verdict.{IsCore, IsVerdictOn}
+use Rattle.c_model.specs.FirstUnit.{IsUnit, spelled, head_words, IsConstant, IsSum, IsProduct, IsPrimary, one_product, added, one_primary, multiplied, constant, int_constant, int_operation}
 use Rattle.c_model.specs.Types89.{int_type}
 use Rattle.c_model.specs.Names89.{IsName}
 use Rattle.c_model.specs.Typing89.{Typed}
@@ -84,25 +83,22 @@ product_is = multiplied product (number 2 refl 29 9 ∷ []) (number 3 refl 33 11
 seven_sum_is : IsSum seven_sum (int_operation Add (int_constant (pos 1) (at 25 7)) (int_operation Mul (int_constant (pos 2) (at 29 9)) (int_constant (pos 3) (at 33 11)) (at 31 10)) (at 27 8))
 seven_sum_is = added seven_sum (number 1 refl 25 7 ∷ []) product (token (Punct 38) 27 8) _ _ plus_spelled (sum_of 1 refl 25 7) product_is refl
 
-pub seven_is_a_unit : IsVerdictOn seven_tokens (at 37 14) (IsCore seven_core)
-seven_is_a_unit = (
-  lit≤ tt,
-  record {
-    head = head;
-    return_ = token (Word 39) 18 6;
-    sum = seven_sum;
-    semicolon = token (Punct 2) 34 12;
-    brace = token (Punct 8) 36 13;
-    value = _;
-    parts = refl;
-    head_is = head_spelled;
-    return_is = return_spelled;
-    sum_is = seven_sum_is;
-    semicolon_is = semicolon_spelled;
-    brace_is = brace_spelled;
-    core_is = refl;
-  },
-)
+pub seven_is_a_unit : IsUnit seven_tokens seven_core
+seven_is_a_unit = record {
+  head = head;
+  return_ = token (Word 39) 18 6;
+  sum = seven_sum;
+  semicolon = token (Punct 2) 34 12;
+  brace = token (Punct 8) 36 13;
+  value = _;
+  parts = refl;
+  head_is = head_spelled;
+  return_is = return_spelled;
+  sum_is = seven_sum_is;
+  semicolon_is = semicolon_spelled;
+  brace_is = brace_spelled;
+  core_is = refl;
+}
 
 pub seven_returns_7 : (world : List ℤ) → run23 1 seven_core (codes "main") [] world ≡ record { events = []; moves = []; ending = Returned (Single (Number (pos 7))) }
 seven_returns_7 world = refl
@@ -151,25 +147,22 @@ overflow_sum = number 2147483647 refl 25 7 ∷ token (Punct 38) 36 8 ∷ number 
 overflow_sum_is : IsSum overflow_sum (int_operation Add (int_constant (pos 2147483647) (at 25 7)) (int_constant (pos 1) (at 38 9)) (at 36 8))
 overflow_sum_is = added overflow_sum (number 2147483647 refl 25 7 ∷ []) (number 1 refl 38 9 ∷ []) (token (Punct 38) 36 8) _ _ plus_spelled (sum_of 2147483647 refl 25 7) (product_of 1 refl 38 9) refl
 
-pub overflow_is_a_unit : IsVerdictOn overflow_tokens (at 42 12) (IsCore overflow_core)
-overflow_is_a_unit = (
-  lit≤ tt,
-  record {
-    head = head;
-    return_ = token (Word 39) 18 6;
-    sum = overflow_sum;
-    semicolon = token (Punct 2) 39 10;
-    brace = token (Punct 8) 41 11;
-    value = _;
-    parts = refl;
-    head_is = head_spelled;
-    return_is = return_spelled;
-    sum_is = overflow_sum_is;
-    semicolon_is = semicolon_spelled;
-    brace_is = brace_spelled;
-    core_is = refl;
-  },
-)
+pub overflow_is_a_unit : IsUnit overflow_tokens overflow_core
+overflow_is_a_unit = record {
+  head = head;
+  return_ = token (Word 39) 18 6;
+  sum = overflow_sum;
+  semicolon = token (Punct 2) 39 10;
+  brace = token (Punct 8) 41 11;
+  value = _;
+  parts = refl;
+  head_is = head_spelled;
+  return_is = return_spelled;
+  sum_is = overflow_sum_is;
+  semicolon_is = semicolon_spelled;
+  brace_is = brace_spelled;
+  core_is = refl;
+}
 
 pub overflow_is_undefined : (world : List ℤ) → run23 1 overflow_core (codes "main") [] world ≡ record { events = []; moves = []; ending = Undefined Overflow (Some (at 36 8)) }
 overflow_is_undefined world = refl

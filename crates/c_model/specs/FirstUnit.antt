@@ -1,6 +1,6 @@
 -- The grammar of the units `int main(void) { return E; }`, over tokens of C, with the core of each
 -- (ISO/IEC 9899:2024, 6.5.6, 6.5.7 and 6.9.2), and the token with which no such unit can go on.
-use Rattle.std.specs.Prelude.{◌≡◌, ℕ, zero, suc, ◌+◌, ◌<◌, ◌≤◌, ℤ, pos, true, false, if◌then◌else◌, List, [], ◌∷◌, ◌++◌, map, take, length, Result, Ok, Err, codes}
+use Rattle.std.specs.Prelude.{◌≡◌, ℕ, zero, suc, ◌+◌, ◌<◌, ℤ, pos, true, false, if◌then◌else◌, List, [], ◌∷◌, ◌++◌, map, take, length, Result, Ok, Err, codes}
 use Rattle.cake_base.specs.declared.places.Place.{Place}
 use Rattle.c_model.specs.declared.numbers.Basic.TheVariants.{Int}
 use Rattle.c_model.specs.declared.numbers.BinOp.{BinOp}
@@ -108,17 +108,15 @@ pub record IsUnit (ts : List CTok) (core : Core) : Type 0 where
 abbrev pub CanGoOn : List CTok → Type 0
 CanGoOn ts = (rest : List CTok) × (core : Core) × IsUnit (ts ++ rest) core
 
--- why reading stops at the token of a rank: no unit goes on with it; or it is the hundred and first; or
--- the tokens are at their end and no unit yet
+-- why reading stops at the token of a rank: no unit goes on with it; or the tokens are at their end and no
+-- unit yet
 pub data StopsFor (ts : List CTok) (rank : ℕ) : Type 0 where
   no_unit_goes_on : rank < length ts → (CanGoOn (take (1 + rank) ts) → ⊥) → StopsFor ts rank
-  too_many : rank < length ts → rank ≡ 100 → StopsFor ts rank
   too_few : rank ≡ length ts → ((core : Core) → IsUnit ts core → ⊥) → StopsFor ts rank
 
 -- the first token at which reading stops has this rank
 pub record StopsAt (ts : List CTok) (rank : ℕ) : Type 0 where
   pub before : CanGoOn (take rank ts)
-  pub count : rank ≤ 100
   pub cause : StopsFor ts rank
 
 -- the place of the token of a rank; behind the last one, that of the end

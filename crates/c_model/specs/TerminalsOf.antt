@@ -1,6 +1,6 @@
 -- A list of tokens of C as the grammar sees it: each token by the number of its kind, and an identifier by the rank of
 -- the first token of its spelling (ISO/IEC 9899:2024, 6.4). A character constant is an integer constant.
-use Rattle.std.specs.Prelude.{ℕ, ◌+◌, Bool, false, if◌then◌else◌, List, [], ◌∷◌}
+use Rattle.std.specs.Prelude.{ℕ, ◌+◌, ◌≤◌, Bool, false, if◌then◌else◌, List, [], ◌∷◌}
 use Rattle.std.specs.Str.{bytes_eq}
 use Rattle.c_model.specs.declared.tokens.CKind.{CKind}
 use Rattle.c_model.specs.declared.tokens.CKind.TheVariants as token
@@ -35,3 +35,8 @@ terminals_from all rank (t ∷ ts) = record { kind = kind_number t.kind; name = 
 
 abbrev pub terminals_of : List CTok → List Terminal
 terminals_of tokens = terminals_from tokens 0 tokens
+
+-- every token has a number of the grammar's vocabulary, of which that of string literals is the last
+abbrev pub AreNumbered : List CTok → Type 0
+AreNumbered [] = Unit {0}
+AreNumbered (t ∷ ts) = (kind_number t.kind ≤ k.StringLiteral) × AreNumbered ts

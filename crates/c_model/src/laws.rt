@@ -14,7 +14,6 @@ ghost use Rattle.c_model.specs.declared.tokens.CTok.{CTok};
 ghost use Rattle.c_model.specs.FirstUnit.{IsUnit};
 ghost use Rattle.c_model.specs.PpTokens.{PpToken, tokens_of};
 ghost use Rattle.c_model.specs.CTokens.{c_tokens_of};
-ghost use Rattle.c_model.specs.Verdict.{IsCore, IsVerdictOn};
 ghost use Rattle.c_model.specs.FirstRow.{at, seven_text, seven_tokens, seven_core, seven_program, seven_written, overflow_tokens, overflow_core};
 
 use crate::outcomes::Cause;
@@ -34,9 +33,9 @@ pub fn seven_is_converted()
     ensures { (tokens : List PpToken) × (tokens_of 0 seven_text ≡ Ok tokens) × (c_tokens_of tokens ≡ Ok seven_tokens) }
 {}
 
-/// They have its core as their verdict.
+/// They are the first unit of its core.
 pub fn seven_is_a_unit()
-    ensures { IsVerdictOn seven_tokens (at 37 14) (IsCore seven_core) }
+    ensures { IsUnit seven_tokens seven_core }
 {}
 
 /// Its `main` returns 7 with one turn, whatever the world.
@@ -57,7 +56,7 @@ pub fn first_unit_is_typed()
 
 /// A sum past the greatest int is a unit, and its run is undefined at the operator.
 pub fn overflow_is_undefined()
-    ensures unit { IsVerdictOn overflow_tokens (at 42 12) (IsCore overflow_core) }
+    ensures unit { IsUnit overflow_tokens overflow_core }
     ensures run { (world : List ℤ) → run23 1 overflow_core (codes "main") [] world ≡ record { events = []; moves = []; ending = Undefined Cause.Overflow (Some (at 36 8)) } }
 {}
 

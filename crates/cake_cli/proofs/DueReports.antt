@@ -1,6 +1,7 @@
 -- Which answer is due, by what preprocessing gave, and its report.
-use Rattle.std.proofs.Common.{◌≡◌, ℕ, List, [], ◌∷◌, Option, Some, None, Result, Ok, Err, refl, sym, ap, ◌∙◌, subst, inl, inr}
+use Rattle.std.proofs.Common.{◌≡◌, ℕ, List, [], ◌∷◌, Option, Some, None, Result, Ok, Err, refl, sym, ap, ◌∙◌, subst, ◌⊎◌, inl, inr}
 use Rattle.cake_base.specs.declared.places.Place.{Place}
+use Rattle.cake_base.specs.declared.rules.Family.TheVariants.{S}
 use Rattle.cake_base.specs.declared.rules.Fault.{Fault}
 use Rattle.cake_base.specs.Outside.{Held, FilesView}
 use Rattle.c_model.specs.declared.directives.ReadCause.TheVariants as cause
@@ -8,10 +9,12 @@ use Rattle.c_model.specs.declared.tokens.CTok.{CTok}
 use Rattle.c_model.specs.declared.words.Mode.{Mode}
 use Rattle.c_model.specs.declared.words.Mode.TheVariants.{Translate, Expand, Check}
 use Rattle.c_model.specs.CTokens.{c_tokens_of}
-use Rattle.c_model.specs.FirstUnit.{returning}
+use Rattle.c_model.specs.FirstUnit.{returning, token_place}
+use Rattle.c_model.specs.TerminalsOf.{terminals_of}
+use Rattle.c_model.specs.UnitSyntax.{IsFault, IsTooDeep}
 use Rattle.c_model.specs.PreprocessedUnit.{Prepared, preprocessed, unit}
 use Rattle.c_model.specs.Processes.{NotHeld, Stop, broken, passed, unread, Log, Refusal, Process, gives, refuses, asks}
-use Rattle.c_model.specs.Verdict.{Verdict, Stopped, NotBuilt, IsCore, IsVerdictOn, IsVerdictOf, IsVerdict}
+use Rattle.c_model.specs.Verdict.{Verdict, Stopped, NotBuilt, IsCore, HasTree, IsVerdictOn, IsVerdictOf, IsVerdict}
 use Rattle.c_model.specs.Words.{Plan}
 use Rattle.c_model.specs.Answer.{Answer, Usage, answer_to_stop, answer_to, log_of, expanded, IsAnswerIn}
 use Rattle.pp_directives.specs.declared.errors.PrepError.{PrepError}
@@ -26,7 +29,8 @@ use Rattle.cake_cli.specs.Reader as reader
 use Rattle.cake_cli.specs.ReadsAs.{ReadsAs}
 use Rattle.cake_cli.specs.Reports.{IsReport, ReportsDone, ReportsStop, ReportsPlan, stop_of}
 use Rattle.cake_cli.proofs.ReadCounts.{IsOver, count_reached}
-use Rattle.cake_cli.proofs.Verdicts.{reading_is_verdict}
+use Rattle.c_model.proofs.SomeAnswer.{answered}
+use Rattle.cake_cli.proofs.Verdicts.{reading_says}
 
 -- ---- what preprocessing comes to
 
@@ -99,12 +103,17 @@ stop_reported plan prep_error.NoMemory log c r due failed stops (stop, is, repor
 
 -- ---- each unit has a verdict, and each call an answer
 
-reading_verdict : (tokens : List CTok) (end : Place) (r : reader.Reading) → ReadsAs tokens end r → (v : Verdict) × IsVerdictOn tokens end v
-reading_verdict tokens end (reader.Stops place) is = (NotBuilt place, is)
-reading_verdict tokens end (reader.Reads value) is = (IsCore (returning value is.0), is.1)
+tree_verdict : (tokens : List CTok) (end : Place) (r : reader.Reading) → HasTree tokens → ReadsAs tokens end r → (v : Verdict) × IsVerdictOn tokens end v
+tree_verdict tokens end (reader.Stops place) tree is = (NotBuilt place, (tree, is.0, is.1, is.2))
+tree_verdict tokens end (reader.Reads value) tree is = (IsCore (returning value is.0), (tree, is.1))
+
+tokens_verdict : (tokens : List CTok) (end : Place) → HasTree tokens ⊎ ((k : ℕ) × IsFault (terminals_of tokens) k) ⊎ ((k : ℕ) × IsTooDeep (terminals_of tokens) k) → (v : Verdict) × IsVerdictOn tokens end v
+tokens_verdict tokens end (inl tree) = tree_verdict tokens end (reader.read_unit tokens end) tree (reading_says tokens end)
+tokens_verdict tokens end (inr (inl (k, is))) = (Stopped (broken (record { place = token_place tokens end k; rule = record { family = S; number = 1 } })), (k, is, refl))
+tokens_verdict tokens end (inr (inr (k, is))) = (Stopped (passed (record { place = token_place tokens end k; limit = record { number = 6 } })), (k, is, refl))
 
 converted_verdict : (converted : Result (List CTok) Fault) (end : Place) → (v : Verdict) × IsVerdictOf converted end v
-converted_verdict (Ok tokens) end = reading_verdict tokens end (reader.read_unit tokens end) (reading_is_verdict tokens end)
+converted_verdict (Ok tokens) end = tokens_verdict tokens end (answered (terminals_of tokens))
 converted_verdict (Err fault) end = (Stopped (broken fault), refl)
 
 pub every_verdict : (done : Result Prepared Refusal) → (v : Verdict) × IsVerdict done v

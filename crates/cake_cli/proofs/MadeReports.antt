@@ -1,19 +1,22 @@
 -- The reports that the code makes, by what they are made of.
-use Rattle.std.proofs.Common.{◌≡◌, ℕ, List, Some, Result, Ok, Err, IfOk, refl, sym, ◌∙◌, subst}
+use Rattle.std.proofs.Common.{◌≡◌, ℕ, zero, suc, List, [], ◌∷◌, Some, slice_get, Result, Ok, Err, IfOk, refl, sym, ap, ◌∙◌, subst}
 use Rattle.cake_base.specs.declared.places.Place.{Place}
+use Rattle.cake_base.specs.declared.rules.Family.TheVariants.{S}
 use Rattle.cake_base.specs.declared.rules.Fault.{Fault}
+use Rattle.cake_base.specs.declared.rules.LimitHit.{LimitHit}
 use Rattle.c_model.specs.declared.tokens.CTok.{CTok}
 use Rattle.c_model.specs.declared.words.Mode.{Mode}
 use Rattle.c_model.specs.declared.words.Mode.TheVariants.{Translate, Expand, Check}
 use Rattle.c_model.specs.CTokens.{c_tokens_of}
 use Rattle.c_model.specs.ExpandedText.{expanded_text}
-use Rattle.c_model.specs.FirstUnit.{returning}
+use Rattle.c_model.specs.FirstUnit.{returning, token_place}
 use Rattle.c_model.specs.PreprocessedUnit.{Prepared}
-use Rattle.c_model.specs.Processes.{Stop, broken, Log}
+use Rattle.c_model.specs.Processes.{Stop, broken, passed, Log}
 use Rattle.c_model.specs.ReportLines.{notes_text}
 use Rattle.c_model.specs.Spelling89.{canonical}
-use Rattle.c_model.specs.Verdict.{Stopped, NotBuilt, IsCore, IsVerdictOf}
-use Rattle.c_model.specs.Answer.{Refused, Unbuilt, Written, Tokens, answer_to_stop, answer_to, delivery_of, IsAnswerIn}
+use Rattle.c_model.specs.Verdict.{Stopped, NotBuilt, IsCore, HasTree, IsVerdictOf}
+use Rattle.c_parser.specs.Answers.{place_of, IsSyntaxError, IsDepthLimit}
+use Rattle.c_model.specs.Answer.{Refused, Unbuilt, Limited, Written, Tokens, answer_to_stop, answer_to, delivery_of, IsAnswerIn}
 use Rattle.pp_directives.specs.declared.errors.PrepError.{PrepError}
 use Rattle.cake_cli.specs.declared.expression.Expr.{Expr}
 use Rattle.cake_cli.specs.declared.report.Report.{Report}
@@ -25,7 +28,13 @@ use Rattle.cake_cli.specs.ReadsAs.{ReadsAs}
 use Rattle.cake_cli.specs.Reports.{IsReport, ReportsTokens, ReportsUnit, ReportsDone, ReportsStop, stop_of}
 use Rattle.cake_cli.specs.Views.{expr_of, target_of}
 use Rattle.cake_cli.proofs.Runs.{delivers}
-use Rattle.cake_cli.proofs.Verdicts.{reading_is_verdict}
+use Rattle.cake_cli.proofs.Verdicts.{reading_says}
+
+-- the place of the token of a rank, as the parser and the verdict have it
+same_place : (tokens : List CTok) (end : Place) (at : ℕ) → place_of (slice_get tokens at) end ≡ token_place tokens end at
+same_place [] end at = refl
+same_place (t ∷ ts) end zero = refl
+same_place (t ∷ ts) end (suc at) = same_place ts end at
 
 module _ {E : Type 0} where
   -- where preprocessing stops
@@ -39,16 +48,29 @@ module _ {E : Type 0} where
   text_delivers (Err x) mode value e is = tt
 
   -- reading stops at a token
-  pub stop_tokens : (r : Result Report E) (mode : Mode) (log : Log) (tokens : List CTok) (end place : Place) → reader.Stops place ≡ reader.read_unit tokens end → IfOk r (IsReport (Unbuilt log place)) → IfOk r (ReportsTokens mode log tokens end)
-  stop_tokens (Ok r) mode log tokens end place reads is = (NotBuilt place, subst (ReadsAs tokens end) (sym reads) (reading_is_verdict tokens end), is)
-  stop_tokens (Err x) mode log tokens end place reads is = tt
+  pub stop_tree : (r : Result Report E) (mode : Mode) (log : Log) (tokens : List CTok) (end place : Place) → HasTree tokens → reader.Stops place ≡ reader.read_unit tokens end → IfOk r (IsReport (Unbuilt log place)) → IfOk r (ReportsTokens mode log tokens end)
+  stop_tree (Ok r) mode log tokens end place tree reads is =
+      let said : ReadsAs tokens end (reader.Stops place) = subst (ReadsAs tokens end) (sym reads) (reading_says tokens end) in
+      (NotBuilt place, (tree, said.0, said.1, said.2), is)
+  stop_tree (Err x) mode log tokens end place tree reads is = tt
 
   -- a whole unit
-  pub unit_tokens : (r : Result Report E) (mode : Mode) (log : Log) (tokens : List CTok) (end : Place) (value : Expr) (out : List ℕ) → reader.Reads (expr_of value) ≡ reader.read_unit tokens end → ((place : Place) → IsDelivered (delivery_of mode (returning (expr_of value) place)) out) → IfOk r (λ r. r.status ≡ status.Written) → IfOk r (λ r. r.out ≡ out) → IfOk r (λ r. r.err ≡ notes_text log) → IfOk r (ReportsTokens mode log tokens end)
-  unit_tokens (Ok r) mode log tokens end value out reads delivered s o e =
-      let said : ReadsAs tokens end (reader.Reads (expr_of value)) = subst (ReadsAs tokens end) (sym reads) (reading_is_verdict tokens end) in
-      (IsCore (returning (expr_of value) said.0), said.1, record { status = s; out = subst (IsDelivered (delivery_of mode (returning (expr_of value) said.0))) (sym o) (delivered said.0); err = e })
-  unit_tokens (Err x) mode log tokens end value out reads delivered s o e = tt
+  pub unit_tree : (r : Result Report E) (mode : Mode) (log : Log) (tokens : List CTok) (end : Place) (value : Expr) (out : List ℕ) → HasTree tokens → reader.Reads (expr_of value) ≡ reader.read_unit tokens end → ((place : Place) → IsDelivered (delivery_of mode (returning (expr_of value) place)) out) → IfOk r (λ r. r.status ≡ status.Written) → IfOk r (λ r. r.out ≡ out) → IfOk r (λ r. r.err ≡ notes_text log) → IfOk r (ReportsTokens mode log tokens end)
+  unit_tree (Ok r) mode log tokens end value out tree reads delivered s o e =
+      let said : ReadsAs tokens end (reader.Reads (expr_of value)) = subst (ReadsAs tokens end) (sym reads) (reading_says tokens end) in
+      (IsCore (returning (expr_of value) said.0), (tree, said.1), record { status = s; out = subst (IsDelivered (delivery_of mode (returning (expr_of value) said.0))) (sym o) (delivered said.0); err = e })
+  unit_tree (Err x) mode log tokens end value out tree reads delivered s o e = tt
+
+  -- a syntax error, or the limit on nesting
+  pub fault_tokens : (r : Result Report E) (mode : Mode) (log : Log) (tokens : List CTok) (end : Place) (fault : Fault) → IsSyntaxError tokens end fault → IfOk r (IsReport (Refused log fault)) → IfOk r (ReportsTokens mode log tokens end)
+  fault_tokens (Ok r) mode log tokens end fault is report =
+      (Stopped (broken fault), (is.at, is.faulty, is.named ∙ ap (λ place. record { place = place; rule = record { family = S; number = 1 } }) (same_place tokens end is.at)), report)
+  fault_tokens (Err x) mode log tokens end fault is report = tt
+
+  pub limit_tokens : (r : Result Report E) (mode : Mode) (log : Log) (tokens : List CTok) (end : Place) (hit : LimitHit) → IsDepthLimit tokens hit → IfOk r (IsReport (Limited log hit)) → IfOk r (ReportsTokens mode log tokens end)
+  limit_tokens (Ok r) mode log tokens end hit is report =
+      (Stopped (passed hit), (is.at, is.deep, is.named ∙ ap (λ place. record { place = place; limit = record { number = 6 } }) (ap (λ t. place_of t end) (sym is.there) ∙ same_place tokens end is.at)), report)
+  limit_tokens (Err x) mode log tokens end hit is report = tt
 
   -- tokens that are converted, or one that isn't
   pub converted_unit : (r : Result Report E) (mode : Mode) (log : Log) (unit : Prepared) (tokens : List CTok) → c_tokens_of unit.tokens ≡ Ok tokens → IfOk r (ReportsTokens mode log tokens unit.end) → IfOk r (ReportsUnit mode log unit)

@@ -1,11 +1,10 @@
--- The reader's answer is the verdict on the tokens.
-use Rattle.std.proofs.Common.{◌≡◌, ℕ, suc, ◌+◌, ◌<◌, ◌≤◌, ◌==◌, List, [], ◌∷◌, ◌++◌, take, length, Option, Some, None, Bool, true, false, if◌then◌else◌, refl, sym, ap, ◌∙◌, subst, append_assoc, arith, length-append}
-use Rattle.std.proofs.lemmas.Bool.Decides.{nat_tests}
+-- The reader's answer is what it says of the tokens.
+use Rattle.std.proofs.Common.{◌≡◌, ℕ, suc, ◌+◌, ◌<◌, List, [], ◌∷◌, ◌++◌, take, length, Option, Some, None, refl, sym, ap, ◌∙◌, subst, append_assoc, arith, length-append}
 use Rattle.std.proofs.lemmas.List.{append-nil}
 use Rattle.cake_base.specs.declared.places.Place.{Place}
 use Rattle.c_model.specs.declared.tokens.CTok.{CTok}
-use Rattle.c_model.specs.FirstUnit.{IsUnit, returning, CanGoOn, StopsFor, no_unit_goes_on, too_many, too_few, StopsAt, token_place}
-use Rattle.cake_cli.specs.Reader.{Stage, Front, Operand, Operator, Tail, Whole, Reading, Stops, Reads, read_token, at_end, on_stage, read_from, read_unit}
+use Rattle.c_model.specs.FirstUnit.{CanGoOn, StopsFor, no_unit_goes_on, too_few, token_place}
+use Rattle.cake_cli.specs.Reader.{Stage, Front, Operand, Operator, Tail, Whole, Reading, Stops, read_token, at_end, on_stage, read_from, read_unit}
 use Rattle.cake_cli.specs.ReadsAs.{ReadsAs}
 use Rattle.cake_cli.proofs.Steps.{go, go-append, go-None}
 use Rattle.cake_cli.proofs.Complete.{unit_read}
@@ -29,37 +28,31 @@ take-one_more ts t us =
     ∙ ap (take (length (ts ++ t ∷ []))) (sym (append_assoc ts (t ∷ []) us))
     ∙ take-front (ts ++ t ∷ []) us
 
--- what an answer says of all tokens
-abbrev Says : List CTok → Place → Reading → Type 0
-Says all end (Stops place) = (rank : ℕ) × StopsAt all rank × (place ≡ token_place all end rank)
-Says all end (Reads value) = (length all ≤ 100) × (place : Place) × IsUnit all (returning value place)
-
-stops_at_end : (all : List CTok) (stage : Stage) (end : Place) → length all ≤ 100 → go (Some (Front 0)) all ≡ Some stage → ((value : _) → stage ≡ Whole value → ⊥) → Says all end (Stops end)
-stops_at_end all stage end size e unfinished =
+stops_at_end : (all : List CTok) (stage : Stage) (end : Place) → go (Some (Front 0)) all ≡ Some stage → ((value : _) → stage ≡ Whole value → ⊥) → ReadsAs all end (Stops end)
+stops_at_end all stage end e unfinished =
     let whole : take (length all) all ≡ all = ap (take (length all)) (sym (append-nil all)) ∙ take-front all [] in (
       length all,
       record {
         before = subst CanGoOn (sym whole) (read_goes_on all stage e);
-        count = size;
         cause = too_few refl (λ core unit. unfinished unit.value (let both : Some stage ≡ Some (Whole unit.value) = sym e ∙ unit_read all core unit in cc));
       },
       sym (token_place-all all end),
     )
 
-says_at_end : (all : List CTok) (stage : Stage) (end : Place) → length all ≤ 100 → go (Some (Front 0)) all ≡ Some stage → Says all end (at_end stage end)
-says_at_end all (Whole value) end size e = let unit = whole_is_unit all value e in (size, unit.0, unit.1)
-says_at_end all (Front count) end size e = stops_at_end all (Front count) end size e (λ value is. let h : Front count ≡ Whole value = is in cc)
-says_at_end all (Operand here outer) end size e = stops_at_end all (Operand here outer) end size e (λ value is. let h : Operand here outer ≡ Whole value = is in cc)
-says_at_end all (Operator operand here outer) end size e = stops_at_end all (Operator operand here outer) end size e (λ value is. let h : Operator operand here outer ≡ Whole value = is in cc)
-says_at_end all (Tail sum) end size e = stops_at_end all (Tail sum) end size e (λ value is. let h : Tail sum ≡ Whole value = is in cc)
+says_at_end : (all : List CTok) (stage : Stage) (end : Place) → go (Some (Front 0)) all ≡ Some stage → ReadsAs all end (at_end stage end)
+says_at_end all (Whole value) end e = whole_is_unit all value e
+says_at_end all (Front count) end e = stops_at_end all (Front count) end e (λ value is. let h : Front count ≡ Whole value = is in cc)
+says_at_end all (Operand here outer) end e = stops_at_end all (Operand here outer) end e (λ value is. let h : Operand here outer ≡ Whole value = is in cc)
+says_at_end all (Operator operand here outer) end e = stops_at_end all (Operator operand here outer) end e (λ value is. let h : Operator operand here outer ≡ Whole value = is in cc)
+says_at_end all (Tail sum) end e = stops_at_end all (Tail sum) end e (λ value is. let h : Tail sum ≡ Whole value = is in cc)
 
 inside_of : (done : List CTok) (t : CTok) (left : List CTok) → length done < length (done ++ t ∷ left)
 inside_of done t left = omega (arith, length-append done (t ∷ left))
 
-stops_before : (done : List CTok) (t : CTok) (left : List CTok) (stage : Stage) (end : Place) → length done ≤ 100 → go (Some (Front 0)) done ≡ Some stage → StopsFor (done ++ t ∷ left) (length done) → Says (done ++ t ∷ left) end (Stops t.place)
-stops_before done t left stage end size e cause = (
+stops_before : (done : List CTok) (t : CTok) (left : List CTok) (stage : Stage) (end : Place) → go (Some (Front 0)) done ≡ Some stage → StopsFor (done ++ t ∷ left) (length done) → ReadsAs (done ++ t ∷ left) end (Stops t.place)
+stops_before done t left stage end e cause = (
   length done,
-  record { before = subst CanGoOn (sym (take-front done (t ∷ left))) (read_goes_on done stage e); count = size; cause = cause },
+  record { before = subst CanGoOn (sym (take-front done (t ∷ left))) (read_goes_on done stage e); cause = cause },
   sym (token_place-append done t left end),
 )
 
@@ -77,38 +70,19 @@ no_unit done t left stage e none (rest, core, unit) =
     let both : None ≡ Some (Whole unit.value) = sym fails ∙ read in cc
 
 abbrev Rest : List CTok → Place → Type 0
-Rest left end = (done : List CTok) (stage : Stage) → length done ≤ 100 → go (Some (Front 0)) done ≡ Some stage → Says (done ++ left) end (read_from stage (length done) left end)
+Rest left end = (done : List CTok) (stage : Stage) → go (Some (Front 0)) done ≡ Some stage → ReadsAs (done ++ left) end (read_from stage left end)
 
--- the token is the hundred and first or not, and the reader takes it or not
-says_step : (many : Bool) (o : Option Stage) (done : List CTok) (t : CTok) (left : List CTok) (stage : Stage) (end : Place) → Rest left end → (length done == 100) ≡ many → read_token stage t ≡ o → length done ≤ 100 → go (Some (Front 0)) done ≡ Some stage → Says (done ++ t ∷ left) end (if many then Stops t.place else on_stage o t.place (λ next. read_from next (length done + 1) left end))
-says_step true o done t left stage end rest test step size e =
-    stops_before done t left stage end size e (too_many (inside_of done t left) (equal (length done) 100 test))
-  where
-    equal : (m n : ℕ) → (m == n) ≡ true → m ≡ n
-    equal m n test = grind (arith, nat_tests)
-says_step false None done t left stage end rest test step size e =
-    stops_before done t left stage end size e (no_unit_goes_on (inside_of done t left) (no_unit done t left stage e step))
-says_step false (Some next) done t left stage end rest test step size e =
-    let one : length (done ++ t ∷ []) ≡ length done + 1 = omega (arith, length-append done (t ∷ [])) in
-    let small : length done + 1 ≤ 100 = below (length done) size (λ h. differs (length done) 100 test h) in
-    subst (λ n. Says (done ++ t ∷ left) end (read_from next n left end)) one
-    (subst (λ ts. Says ts end (read_from next (length (done ++ t ∷ [])) left end)) (append_assoc done (t ∷ []) left)
-    (rest (done ++ t ∷ []) next (omega (arith, one, small))
-    (go-append (Some (Front 0)) done (t ∷ []) ∙ ap (λ o. go o (t ∷ [])) e ∙ step)))
-  where
-    differs : (m n : ℕ) → (m == n) ≡ false → m ≡ n → ⊥
-    differs m n test e = grind (arith, nat_tests)
-
-    below : (n : ℕ) → n ≤ 100 → (n ≡ 100 → ⊥) → n + 1 ≤ 100
-    below n h ne = omega (arith, h, ne)
+-- the reader takes the token or not
+says_step : (o : Option Stage) (done : List CTok) (t : CTok) (left : List CTok) (stage : Stage) (end : Place) → Rest left end → read_token stage t ≡ o → go (Some (Front 0)) done ≡ Some stage → ReadsAs (done ++ t ∷ left) end (on_stage o t.place (λ next. read_from next left end))
+says_step None done t left stage end rest step e =
+    stops_before done t left stage end e (no_unit_goes_on (inside_of done t left) (no_unit done t left stage e step))
+says_step (Some next) done t left stage end rest step e =
+    subst (λ ts. ReadsAs ts end (read_from next left end)) (append_assoc done (t ∷ []) left)
+    (rest (done ++ t ∷ []) next (go-append (Some (Front 0)) done (t ∷ []) ∙ ap (λ o. go o (t ∷ [])) e ∙ step))
 
 says : (left : List CTok) (end : Place) → Rest left end
-says [] end done stage size e = subst (λ ts. Says ts end (at_end stage end)) (sym (append-nil done)) (says_at_end done stage end size e)
-says (t ∷ left) end done stage size e = says_step (length done == 100) (read_token stage t) done t left stage end (says left end) refl refl size e
+says [] end done stage e = subst (λ ts. ReadsAs ts end (at_end stage end)) (sym (append-nil done)) (says_at_end done stage end e)
+says (t ∷ left) end done stage e = says_step (read_token stage t) done t left stage end (says left end) refl e
 
-verdict_of_reading : (tokens : List CTok) (end : Place) (r : Reading) → Says tokens end r → ReadsAs tokens end r
-verdict_of_reading tokens end (Stops place) said = (said.0, said.1, said.2)
-verdict_of_reading tokens end (Reads value) said = (said.1, (said.0, said.2))
-
-pub reading_is_verdict : (tokens : List CTok) (end : Place) → ReadsAs tokens end (read_unit tokens end)
-reading_is_verdict tokens end = verdict_of_reading tokens end (read_unit tokens end) (says tokens end [] (Front 0) (omega arith) refl)
+pub reading_says : (tokens : List CTok) (end : Place) → ReadsAs tokens end (read_unit tokens end)
+reading_says tokens end = says tokens end [] (Front 0) refl

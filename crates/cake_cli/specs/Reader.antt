@@ -155,12 +155,10 @@ abbrev pub on_stage : Option Stage → Place → (Stage → Reading) → Reading
 on_stage None place next = Stops place
 on_stage (Some stage) place next = next stage
 
--- reads the tokens from a rank on, of which the hundred and first is too many
-abbrev pub read_from : Stage → (rank : ℕ) → List CTok → (end : Place) → Reading
-read_from stage rank [] end = at_end stage end
-read_from stage rank (token ∷ tokens) end =
-    if rank == 100 then Stops token.place
-    else on_stage (read_token stage token) token.place (λ next. read_from next (rank + 1) tokens end)
+-- reads the tokens from this stage on
+abbrev pub read_from : Stage → List CTok → (end : Place) → Reading
+read_from stage [] end = at_end stage end
+read_from stage (token ∷ tokens) end = on_stage (read_token stage token) token.place (λ next. read_from next tokens end)
 
 abbrev pub read_unit : List CTok → (end : Place) → Reading
-read_unit tokens end = read_from (Front 0) 0 tokens end
+read_unit tokens end = read_from (Front 0) tokens end

@@ -11,9 +11,6 @@ use c_tokens::{CList, CTok};
 use cake_base::{NoMemory, Place};
 use std::alloc::Global;
 
-/// A unit has at most so many tokens.
-const MAX_TOKENS: usize = 100;
-
 /// How far a unit has been read. The innermost of the outer parentheses is the last.
 #[derive(Drop)]
 pub enum Stage {
@@ -218,7 +215,7 @@ fn read_token(alloc: Global, stage: Stage, token: &CTok) -> Result<Option<Stage>
     }
 }
 
-/// Reads a whole unit of at most a hundred tokens, which end at `end`.
+/// Reads a whole unit, whose tokens end at `end`.
 pub fn read_unit(alloc: Global, tokens: &CList, end: Place) -> Result<Reading, NoMemory>
     ensures { IfOk result (λ r. reading_of r ≡ read_unit tokens.now end) }
 {
@@ -227,9 +224,6 @@ pub fn read_unit(alloc: Global, tokens: &CList, end: Place) -> Result<Reading, N
         let Some(token) = tokens.get(at) else {
             unreachable!();
         };
-        if at == MAX_TOKENS {
-            return Ok(Reading::Stops(token.place));
-        }
         match read_token(alloc, stage, token)? {
             None => return Ok(Reading::Stops(token.place)),
             Some(next) => stage = next,

@@ -4,6 +4,7 @@ ghost use Rattle.cake_base.specs.declared.places.Place.{Place};
 ghost use Rattle.c_model.specs.Answer.{Refused, Unbuilt, Limited, Written, delivery_of};
 ghost use Rattle.c_model.specs.FirstUnit.{returning};
 ghost use Rattle.c_model.specs.ReportLines.{notes_text};
+ghost use Rattle.c_model.specs.Verdict.{HasTree};
 ghost use Rattle.pp_directives.specs.Promise.{with_log};
 ghost use Rattle.cake_cli.specs.Promise.{IsDelivered};
 ghost use Rattle.cake_cli.specs.Reports.{IsReport, ReportsTokens, ReportsUnit, ReportsDone, ReportsStop, unread_answer};
@@ -16,6 +17,7 @@ use crate::report_lines::{push_cannot_read, push_fault, push_limit, push_not_bui
 use crate::spelling::spell;
 use crate::status::Status;
 use c_model::words::Mode;
+use c_parser::{ParseError, parse};
 use c_tokens::{CList, TokenError, convert_tokens};
 use cake_base::{Bytes, Fault, LimitHit, NoMemory, Place};
 use pp_directives::{Prep, PrepError, PrepLog};
@@ -107,6 +109,26 @@ fn unit_text(alloc: Global, mode: Mode, value: &Expr) -> Result<Bytes, NoMemory>
     }
 }
 
+/// The report on tokens that have a tree.
+fn report_tree(
+    alloc: Global,
+    mode: Mode,
+    log: &PrepLog,
+    tokens: &CList,
+    end: Place,
+) -> Result<Report, NoMemory>
+    requires { HasTree tokens.now }
+    ensures { IfOk result (ReportsTokens mode log.now tokens.now end) }
+{
+    match read_unit(alloc, tokens, end)? {
+        Reading::Stops(place) => unbuilt(alloc, log, place),
+        Reading::Reads(value) => {
+            let out = unit_text(alloc, mode, &value)?;
+            written(alloc, log, out)
+        }
+    }
+}
+
 /// The report on tokens of C.
 fn report_tokens(
     alloc: Global,
@@ -117,12 +139,14 @@ fn report_tokens(
 ) -> Result<Report, NoMemory>
     ensures { IfOk result (ReportsTokens mode log.now tokens.now end) }
 {
-    match read_unit(alloc, tokens, end)? {
-        Reading::Stops(place) => unbuilt(alloc, log, place),
-        Reading::Reads(value) => {
-            let out = unit_text(alloc, mode, &value)?;
-            written(alloc, log, out)
+    match parse(alloc, tokens, end) {
+        Ok(trees) => {
+            drop(trees);
+            report_tree(alloc, mode, log, tokens, end)
         }
+        Err(ParseError::Fault(fault)) => refused(alloc, log, &fault),
+        Err(ParseError::Limit(hit)) => limited(alloc, log, &hit),
+        Err(ParseError::NoMemory) => Err(NoMemory),
     }
 }
 

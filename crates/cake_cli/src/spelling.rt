@@ -35,7 +35,7 @@ fn sign(op: BinOp) -> &'static [u8]
     }
 }
 
-// The depth is at most that of a unit of a hundred tokens.
+// The depth is at most that of a unit within the limit on nesting.
 fn push_expression(alloc: Global, out: &mut Bytes, e: &Expr) -> Result<(), NoMemory>
     ensures { OnOk result (out.new ≡ out.old ++ expr_text (target_of e.now)) }
 {

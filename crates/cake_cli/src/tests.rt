@@ -41,7 +41,7 @@ fn run(alloc: Global, line: &str, text: &[u8], headers: &[Header]) -> Result<Ans
 
 #[test]
 fn units_are_written_or_refused_at_their_place(rt: HostRuntime) -> Result<(), Fail> {
-    let table: [(&str, &[u8], Status, &[u8], &[u8]); 13] = [
+    let table: [(&str, &[u8], Status, &[u8], &[u8]); 17] = [
         (
             "a.c",
             b"int main(void) { return 0; }\n",
@@ -82,7 +82,35 @@ fn units_are_written_or_refused_at_their_place(rt: HostRuntime) -> Result<(), Fa
             b"int main(void) { return (1 + ); }",
             Status::Refused,
             b"",
-            b"a.c:1:30: not built yet\n",
+            b"a.c:1:30: error S01: syntax error\n",
+        ),
+        (
+            "--check a.c",
+            b"int main(void) { return 0;",
+            Status::Refused,
+            b"",
+            b"a.c:1:27: error S01: syntax error\n",
+        ),
+        (
+            "a.c",
+            b"int main(void) { return 1 +; return 08; }",
+            Status::Refused,
+            b"",
+            b"a.c:1:37: error L05: malformed number or suffix\n",
+        ),
+        (
+            "a.c",
+            b"int main(void) { }",
+            Status::Refused,
+            b"",
+            b"a.c:1:18: not built yet\n",
+        ),
+        (
+            "a.c",
+            b"#define OPEN ((((((((((((((((((((\n#define MANY OPEN OPEN OPEN OPEN OPEN OPEN OPEN OPEN OPEN OPEN\nint main(void) { return MANY 0; }",
+            Status::Limit,
+            b"",
+            b"a.c:3:25: limit M06: nesting\n",
         ),
         (
             "--check a.c",
@@ -96,7 +124,7 @@ fn units_are_written_or_refused_at_their_place(rt: HostRuntime) -> Result<(), Fa
             b"",
             Status::Refused,
             b"",
-            b"a.c:1:1: not built yet\n",
+            b"a.c:1:1: error S01: syntax error\n",
         ),
         (
             "a.c",

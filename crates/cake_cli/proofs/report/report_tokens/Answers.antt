@@ -1,12 +1,12 @@
-use Rattle.std.proofs.Common.{◌∙◌, ap, sym}
-use Rattle.cake_cli.specs.Views.{reading_of}
-use Rattle.cake_cli.proofs.MadeReports.{stop_tokens, unit_tokens}
+use Rattle.cake_cli.proofs.MadeReports.{fault_tokens, limit_tokens}
 use Rattle.cake_cli.proofs.report.report_tokens.Goals as goal
 
-pub returns-in-Stops : goal.returns-in-Stops
-returns-in-Stops c = stop_tokens _ c.args.mode c.args.log.now c.args.tokens.now c.args.end c.in-Stops.place (sym (ap reading_of c.in-Stops.is) ∙ c.in_ok-place.ensures) c.unbuilt.ensures
+pub returns-in-Err-Fault : goal.returns-in-Err-Fault
+returns-in-Err-Fault c =
+    fault_tokens _ c.args.mode c.args.log.now c.args.tokens.now c.args.end c.in-Err-Fault.fault
+    (rw c.in-Err-Fault.field-0-is at c.in-Err-Fault.ensures) (rw c.in-Err-Fault.field-0-is at c.refused.ensures)
 
-pub returns-in_ok-out-in-Reads : goal.returns-in_ok-out-in-Reads
-returns-in_ok-out-in-Reads c =
-    unit_tokens _ c.args.mode c.args.log.now c.args.tokens.now c.args.end c.in-Reads.value c.in_ok-out-in-Reads.out (sym (ap reading_of c.in-Reads.is) ∙ c.in_ok-place.ensures)
-    c.in_ok-out-in-Reads.ensures c.written.ensures.status c.written.ensures.out c.written.ensures.err
+pub returns-in-Err-Limit : goal.returns-in-Err-Limit
+returns-in-Err-Limit c =
+    limit_tokens _ c.args.mode c.args.log.now c.args.tokens.now c.args.end c.in-Err-Limit.hit
+    (rw c.in-Err-Limit.field-0-is at c.in-Err-Limit.ensures) (rw c.in-Err-Limit.field-0-is at c.limited.ensures)
