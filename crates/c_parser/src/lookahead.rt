@@ -555,10 +555,8 @@ fn are_enumerators(place: Within, named: bool) -> bool
     match place {
         Within::Between(_) | Within::BehindColon => true,
         Within::BehindTag => named,
-        Within::BehindHead(_)
-        | Within::BehindTypeof
-        | Within::Attribute(_, _)
-        | Within::Group(_) => false,
+        Within::BehindHead(_) | Within::BehindTypeof | Within::Attribute(_, _) | Within::Group(_) =>
+            false,
     }
 }
 
