@@ -70,6 +70,7 @@ pub mod Compared
 pub mod PreferredUnit
 pub mod NamesKept
 pub mod PlainUnits
+pub mod ForgetMarks
 pub mod OneAnswer
 pub mod SomeAnswer
 pub mod PpNumberLaws

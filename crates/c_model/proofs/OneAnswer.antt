@@ -99,7 +99,7 @@ depth_twice ts j k (before_fault v f l a) (in_unit e b) = absurd (no_unit f e)
 depth_twice ts j k (before_fault v f l a) (before_fault w g m b) = one_first (walked v) j k a (subst (λ z. IsFirstDeep z k) (same_walk w v) b)
 
 unit_not_deep : (ts : List Terminal) (xs : List Tree) (k : ℕ) → IsUnit ts xs → IsTooDeep ts k → ⊥
-unit_not_deep ts xs k u (in_unit e b) = not_both (marks parsed u.alone.derived) k u.shallow (subst (λ z. IsFirstDeep z k) (same_marks e u.alone.derived) b)
+unit_not_deep ts xs k u (in_unit e b) = not_both (marks parsed u.alone.derived) k (subst AreShallow u.parts u.shallow) (subst (λ z. IsFirstDeep z k) (same_marks e u.alone.derived) b)
 unit_not_deep ts xs k u (before_fault w f l b) = no_unit f u.alone.derived
 
 fault_not_deep : (ts : List Terminal) (j k : ℕ) → IsFault ts j → IsTooDeep ts k → ⊥

@@ -19,7 +19,8 @@ use Rattle.c_model.specs.OneAnswer.{HasAnswer}
 use Rattle.c_model.proofs.DecidedGrammar.{unique, sound, begun, read_so_far, refuted, ended as goes_no_further, first_fault, no_longer, behind}
 use Rattle.c_model.proofs.ParserDecided.{quiet, checked}
 use Rattle.c_model.proofs.PreferredUnit.{preferred}
-use Rattle.c_model.proofs.Forget.{forget_unit, forget_begun_unit}
+use Rattle.c_model.proofs.Forget.{forget_begun_unit}
+use Rattle.c_model.proofs.ForgetMarks.{same_parts}
 use Rattle.c_model.proofs.RegainUnit.{open_fault}
 use Rattle.c_model.proofs.TotalWalk.{Outcome, read, failed, ends}
 use Rattle.c_model.proofs.MarkedWalks.{Starts, met_read, met_failed, derived_length, begun_length}
@@ -80,12 +81,13 @@ pub whole : {ts rest : List Terminal} {xs : List Tree} {new : Scopes} (p : Reads
 whole {ts = ts} {xs = xs} {new = new} p e h = by e p h
   where
     here : (p : Reads tables parsed unit start ts xs new []) → AreShallow (marks parsed (derivation tables parsed p)) → IsUnit ts xs
-    here p h = record {
+    here p h = let g = same_parts ts xs new [] (derivation tables parsed p) in record {
       scopes = new;
-      derived = forget_unit ts xs new [] (derivation tables parsed p);
+      derived = g.0;
       alone = record { scopes = new; derived = derivation tables parsed p; alone = λ ys z k. (unique tables parsed quiet checked p (0 ∷ []) before_end k (at_end z)).trees };
       preferred = preferred ts xs new (derivation tables parsed p);
-      shallow = h;
+      parts = g.1;
+      shallow = subst AreShallow (sym g.1) h;
     }
 
     by : {rest : List Terminal} → rest ≡ [] → (p : Reads tables parsed unit start ts xs new rest) → AreShallow (marks parsed (derivation tables parsed p)) → IsUnit ts xs
