@@ -1,19 +1,17 @@
 -- What the walk through the parser's table says of a list of tokens; and each list has an answer.
-use Rattle.std.proofs.Common.{◌≡◌, ℕ, zero, suc, ◌+◌, ◌-◌, ◌<◌, ◌≤◌, false, List, [], ◌∷◌, ◌++◌, length, drop, append_assoc, refl, ap, sym, subst, ◌∙◌, arith}
+use Rattle.std.proofs.Common.{◌≡◌, ℕ, suc, ◌+◌, ◌-◌, ◌<◌, ◌≤◌, false, List, [], ◌∷◌, ◌++◌, length, drop, append_assoc, refl, ap, sym, subst, ◌∙◌, arith}
 use Rattle.std.proofs.lemmas.Bool.{cases_lt}
 use mathlib.Core.Logic.{◌⊎◌, inl, inr}
 use Rattle.c_model.specs.declared.grammar.Terminal.{Terminal}
 use Rattle.c_model.specs.declared.grammar.Tree.{Tree}
-use Rattle.c_model.specs.GrammarForm.{Form}
 use Rattle.c_model.specs.NameScopes.{Scopes, start}
-use Rattle.c_model.specs.Derivation.{Derives, Begins}
+use Rattle.c_model.specs.Derivation.{Begins}
 use Rattle.c_model.specs.FaultPlace.{FaultsAt}
 use Rattle.c_model.specs.DepthPlace.{Mark, PassesLimit, AreShallow, IsFirstDeep, EndsDeep, max_parts, marks, marks_so_far, nothing_read}
 use Rattle.c_model.specs.ParserWalk.{Reads, Fails, Meets}
 use Rattle.c_model.specs.WalkedDerivation.{derivation, front, front_with}
 use Rattle.c_model.specs.ParserSets.{tables}
 use Rattle.c_model.specs.ParserTests.{parsed}
-use Rattle.c_model.specs.OpenTable.{opened}
 use Rattle.c_model.specs.UnitSyntax.{unit, IsUnit, IsFault, IsTooDeep, Walk, stuck, ended, walked, in_unit, before_fault}
 use Rattle.c_model.specs.OneAnswer.{HasAnswer}
 use Rattle.c_model.proofs.DecidedGrammar.{unique, sound, begun, read_so_far, refuted, ended as goes_no_further, first_fault, no_longer, behind}

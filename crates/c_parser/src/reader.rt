@@ -171,9 +171,10 @@ fn read_turn(
     if !context.chain {
         return read(alloc, reader, f, context, out);
     }
+    let inner = context.turn();
     let outer = reader.heights;
     reader.heights = outer.inside();
-    read(alloc, reader, f, context.turn(), out)?;
+    read(alloc, reader, f, inner, out)?;
     reader.heights = reader.heights.behind_turn(outer);
     Ok(())
 }

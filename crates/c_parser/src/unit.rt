@@ -40,13 +40,7 @@ pub fn parse_terminals(alloc: Global, tokens: &[Terminal]) -> Result<Items<Tree>
         heights: Heights::none(),
     };
     let mut trees = Items::new(alloc);
-    match read(
-        alloc,
-        &mut reader,
-        UNIT,
-        Context::outermost(),
-        &mut trees,
-    ) {
+    match read(alloc, &mut reader, UNIT, Context::outermost(), &mut trees) {
         Ok(()) => {
             if reader.rest.is_empty() {
                 Ok(trees)

@@ -1,7 +1,6 @@
-use Rattle.std.proofs.Common.{◌≡◌, ◌+◌, ◌*◌, length, sym, subst, ap, ◌∙◌}
+use Rattle.std.proofs.Common.{sym, subst, ◌∙◌}
 use Rattle.std.proofs.lemmas.Result.{err_from_is_err_and}
-use Rattle.c_model.specs.GrammarForm.{rule, many, loop}
-use Rattle.c_model.specs.LeftWeights.{weight, IsWalkable}
+use Rattle.c_model.specs.LeftWeights.{IsWalkable}
 use Rattle.c_model.proofs.TotalWalk.{rule_walkable, then_walkable, or_walkable, when_walkable, maybe_walkable, many_walkable, loop_walkable}
 use Rattle.c_parser.specs.View.{form}
 use Rattle.c_parser.proofs.ReaderSteps.{then_told, first_told, left_told, right_told, take_told, chosen_told, other_told, none_told, skip_told, rule_told, rule_stops}
@@ -88,10 +87,10 @@ pub read_turn-read-requires-2 : goal.read_turn-read-requires-2
 read_turn-read-requires-2 t c = (in_turn _ _ (sym c.decreases), c.requires)
 
 pub read_turn-returns-in_err-read : goal.read_turn-returns-in_err-read
-read_turn-returns-in_err-read t c = let e = err_from_is_err_and c.from_residual.result c.from_residual.ensures.1 in rw (e.1, e.2) (chain_stops (form c.args.f.now) c.args.context c.turn.result c.args.reader.now c.read-2.new.reader c.inside-reader.result c.args.out.now c.read-2.new.out _ (unless_not _ c.if-not-context.false) c.turn.ensures c.inside-reader.ensures c.in_err-read.ensures)
+read_turn-returns-in_err-read t c = let e = err_from_is_err_and c.from_residual.result c.from_residual.ensures.1 in rw (e.1, e.2) (chain_stops (form c.args.f.now) c.args.context c.turn-inner.result c.args.reader.now c.read-2.new.reader c.inside-reader.result c.args.out.now c.read-2.new.out _ (unless_not _ c.if-not-context.false) c.turn-inner.ensures c.inside-reader.ensures c.in_err-read.ensures)
 
 pub read_turn-returns : goal.read_turn-returns
-read_turn-returns t c = chain_turn (form c.args.f.now) c.args.context c.turn.result c.args.reader.now c.read-2.new.reader c.inside-reader.result c.behind_turn-reader.result c.args.out.now c.read-2.new.out (unless_not _ c.if-not-context.false) c.turn.ensures c.inside-reader.ensures c.in_ok-read.ensures c.behind_turn-reader.ensures
+read_turn-returns t c = chain_turn (form c.args.f.now) c.args.context c.turn-inner.result c.args.reader.now c.read-2.new.reader c.inside-reader.result c.behind_turn-reader.result c.args.out.now c.read-2.new.out (unless_not _ c.if-not-context.false) c.turn-inner.ensures c.inside-reader.ensures c.in_ok-read.ensures c.behind_turn-reader.ensures
 
 pub read_many-loop-alloc-init : goal.read_many-loop-alloc-init
 read_many-loop-alloc-init t c = no_turn _ _ _ _
