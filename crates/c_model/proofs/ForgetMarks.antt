@@ -1,5 +1,5 @@
 -- To forget the parser's tests changes no mark: what its table derives, the grammar derives with the same parts.
-use Rattle.std.proofs.Common.{◌≡◌, ℕ, Bool, true, false, List, [], refl, ap, subst, ◌∙◌}
+use Rattle.std.proofs.Common.{◌≡◌, ℕ, Bool, true, false, List, [], ◌++◌, refl, ap, subst, ◌∙◌}
 use Rattle.std.specs.Prelude.{if◌then◌else◌}
 use Rattle.c_model.specs.declared.grammar.Test.{Test}
 use Rattle.c_model.specs.declared.grammar.Test.TheVariants as test
@@ -8,9 +8,9 @@ use Rattle.c_model.specs.declared.grammar.Tree.{Tree}
 use Rattle.c_model.specs.GrammarForm.{Form, word, rule, empty, ◌then◌, ◌or◌, maybe, many, when, loop}
 use Rattle.c_model.specs.NameScopes.{Scopes, start}
 use Rattle.c_model.specs.Derivation.{Derives}
-use Rattle.c_model.specs.DepthPlace.{Piece, nothing_read, joined, ends, deeper, is_chain, grown, marks}
+use Rattle.c_model.specs.DepthPlace.{Piece, nothing_read, joined, chained, ends, deeper, is_chain, grown, marks}
 use Rattle.c_model.specs.Grammar.{is_part}
-use Rattle.c_model.specs.Untested.{untested, open_choice, either}
+use Rattle.c_model.specs.Untested.{untested, open_choice, open_loop, either}
 use Rattle.c_model.specs.SyntaxTree.{c_language}
 use Rattle.c_model.specs.ParserTests.{parsed, passes}
 use Rattle.c_model.specs.ParserSets.{tables}
@@ -63,6 +63,25 @@ choice_second test.HasParameters f g u b d = record { derived = Derives.other b 
 choice_second test.ElseAhead f g u b d = record { derived = Derives.other b d.derived; same = λ c n p. d.same c n p }
 choice_second _ f g u b d = or_else f g u d
 
+-- what a turn makes of the piece before it
+abbrev with_turn : (Bool → ℕ → Piece → Piece) → Bool → ℕ → Piece → Piece
+with_turn u c n p = if c then chained p (u false n nothing_read) else u false n p
+
+loop_stops : (t : Test) (f : Form) {s : Scopes} {ts : List Terminal} → passes t s ts ≡ false → Forgotten (open_loop t f) s ts [] s ts (λ c n p. p)
+unfolding open_loop grown
+loop_stops test.TypeAhead f b = record { derived = Derives.done b; same = λ c n p. refl }
+loop_stops _ f b = record { derived = Derives.stop; same = λ c n p. refl }
+
+one_turn : (c : Bool) (n : ℕ) (p : Piece) {f more : Form} {s mid new : Scopes} {ts later rest : List Terminal} {xs ys : List Tree} (u v : Bool → ℕ → Piece → Piece) (a : Forgotten f s ts xs mid later u) (g : Forgotten more mid later ys new rest v)
+    → grown c_language c n g.derived (with_turn (λ c n p. grown c_language c n a.derived p) c n p) ≡ v c n (with_turn u c n p)
+one_turn c n p u v a g = ap (λ z. grown c_language c n g.derived z) (per_turn c p _ _ _ _ (a.same false n nothing_read) (a.same false n p)) ∙ g.same c n _
+
+loop_turns : (t : Test) (f : Form) {s mid new : Scopes} {ts later rest : List Terminal} {xs ys zs : List Tree} (u v : Bool → ℕ → Piece → Piece) → passes t s ts ≡ true → Forgotten f s ts xs mid later u → Forgotten (open_loop t f) mid later ys new rest v → zs ≡ xs ++ ys
+    → Forgotten (open_loop t f) s ts zs new rest (λ c n p. v c n (with_turn u c n p))
+unfolding open_loop grown
+loop_turns test.TypeAhead f u v b a g h = record { derived = Derives.again b a.derived g.derived h; same = λ c n p. one_turn c n p u v a g }
+loop_turns _ f u v b a g h = record { derived = Derives.turn a.derived g.derived h; same = λ c n p. one_turn c n p u v a g }
+
 forgotten : {f : Form} {s new : Scopes} {ts rest : List Terminal} {xs : List Tree} (d : Derives parsed f s ts xs new rest) → Forgotten (untested f) s ts xs new rest (growth tables parsed d)
 unfolding untested grown
 forgotten (Derives.a_word e) = record { derived = Derives.a_word e; same = λ c n p. refl }
@@ -79,8 +98,8 @@ forgotten Derives.stop = record { derived = Derives.stop; same = λ c n p. refl 
 forgotten (Derives.turn d e h) = let a = forgotten d in let b = forgotten e in record { derived = Derives.turn a.derived b.derived h; same = λ c n p. ap (λ z. grown c_language c n b.derived z) (per_turn c p _ _ _ _ (a.same false n nothing_read) (a.same false n p)) ∙ b.same c n _ }
 forgotten (Derives.chosen t d) = let a = forgotten d in choice_first _ _ _ _ t (record { derived = a.derived; same = λ c n p. a.same c n p })
 forgotten (Derives.other t d) = let a = forgotten d in choice_second _ _ _ _ t (record { derived = a.derived; same = λ c n p. a.same c n p })
-forgotten (Derives.done t) = record { derived = Derives.stop; same = λ c n p. refl }
-forgotten (Derives.again t d e h) = let a = forgotten d in let b = forgotten e in record { derived = Derives.turn a.derived b.derived h; same = λ c n p. ap (λ z. grown c_language c n b.derived z) (per_turn c p _ _ _ _ (a.same false n nothing_read) (a.same false n p)) ∙ b.same c n _ }
+forgotten (Derives.done {p = t} b) = let a = loop_stops t _ b in record { derived = a.derived; same = λ c n p. a.same c n p }
+forgotten (Derives.again {p = t} b d e h) = let a = loop_turns t _ _ _ b (forgotten d) (forgotten e) h in record { derived = a.derived; same = λ c n p. a.same c n p }
 
 pub same_parts : (ts : List Terminal) (xs : List Tree) (new : Scopes) (rest : List Terminal) (d : Derives parsed unit start ts xs new rest) → (e : Derives c_language unit start ts xs new rest) × (marks c_language e ≡ marks parsed d)
 unfolding untested
