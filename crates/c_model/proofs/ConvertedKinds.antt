@@ -1,5 +1,5 @@
 -- Each token that conversion gives has a number of the grammar's vocabulary.
-use Rattle.std.proofs.Common.{◌≡◌, ℕ, ◌+◌, ◌<◌, ◌≤◌, Bool, true, false, List, [], ◌∷◌, ◌++◌, length, Option, Some, None, Result, Ok, Err, ◌∙◌, sym, ap, refl, subst, arith}
+use Rattle.std.proofs.Common.{◌≡◌, ℕ, ◌+◌, ◌<◌, ◌≤◌, Bool, true, false, List, [], ◌∷◌, ◌++◌, length, Option, Some, None, Result, Ok, Err, refl, subst, arith}
 use Rattle.std.specs.Prelude.{if◌then◌else◌}
 use Rattle.std.specs.Str.{bytes_eq}
 use Rattle.cake_base.specs.declared.places.Place.{Place}
@@ -14,7 +14,7 @@ use Rattle.c_model.specs.declared.tokens.PpKind.TheVariants.{Header, Name, Numbe
 use Rattle.c_model.specs.declared.tokens.TokenRule.{TokenRule}
 use Rattle.c_model.specs.declared.tokens.TokenRule.TheVariants.{Stray}
 use Rattle.c_model.specs.Characters.{characters, content}
-use Rattle.c_model.specs.CTokens.{is_identifier, word_or_name, name_token, numbered, punctuator_token, unless_floating, number_token, as_signed_char, integer, one_character, character_in, character_token, all_bytes, string, string_in, string_token, converted, placed_at, rule_number, c_token_of, join_kinds, join, strings_joined, before_tokens, each_token, joined, c_tokens_of}
+use Rattle.c_model.specs.CTokens.{is_identifier, word_or_name, name_token, numbered, unless_floating, as_signed_char, integer, one_character, character_in, all_bytes, string, string_in, converted, placed_at, rule_number, c_token_of, join_kinds, join, strings_joined, before_tokens, each_token, joined, c_tokens_of}
 use Rattle.c_model.specs.FloatingConstants.{is_floating}
 use Rattle.c_model.specs.IntegerConstants.{constant_in, fitting, integer_constant}
 use Rattle.c_model.specs.PpTokens.{PpToken, token_fault}

@@ -1,6 +1,5 @@
 -- The core of a first unit is typed.
-use Rattle.std.proofs.Common.{◌≡◌, ℕ, ◌≤◌, pos, true, List, refl, subst, sym, arith}
-use Rattle.std.proofs.lemmas.Bool.Decides.{nat_tests}
+use Rattle.std.proofs.Common.{◌≡◌, ℕ, pos, true, List, refl, subst, sym}
 use Rattle.cake_base.specs.declared.places.Place.{Place}
 use Rattle.c_model.specs.declared.numbers.Basic.TheVariants.{Int}
 use Rattle.c_model.specs.declared.numbers.BinOp.{BinOp}

@@ -2,7 +2,7 @@
 -- knows is known, and an enumeration stands before its underlying type. A type is compatible with the
 -- composite type exactly where it is compatible with both.
 use Rattle.std.specs.Prelude.{ℕ, Option, Some, None}
-use Rattle.c_model.specs.Types.{CType, typed, Form, Void, Integer, Enum, Pointer, Array, Struct, Function, Types, no_types, more_types}
+use Rattle.c_model.specs.Types.{CType, typed, Form, Integer, Enum, Pointer, Array, Function, Types, more_types}
 
 abbrev pub known_length : Option ℕ → Option ℕ → Option ℕ
 known_length (Some m) n = Some m

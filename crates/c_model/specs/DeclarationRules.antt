@@ -1,6 +1,6 @@
 -- The constraints on a declaration of a name where others stand (ISO/IEC 9899:2024, 6.2.2, 6.2.7, 6.7,
 -- 6.7.3.4), and the smallest rule that a declaration breaks.
-use Rattle.std.specs.Prelude.{ℕ, nat_eq, Bool, true, false, ◌&&◌, ◌||◌, not, if◌then◌else◌, List, [], ◌∷◌, length, take, Option, Some, None, option_map, codes}
+use Rattle.std.specs.Prelude.{ℕ, Bool, true, false, ◌&&◌, ◌||◌, not, if◌then◌else◌, List, length, take, Option, Some, None, option_map, codes}
 use Rattle.cake_base.specs.declared.places.Place.{Place}
 use Rattle.cake_base.specs.declared.rules.Fault.{Fault}
 use Rattle.cake_base.specs.declared.rules.Family.TheVariants.{C}
@@ -14,7 +14,7 @@ use Rattle.c_model.specs.Compatible.{compatible, same_bool}
 use Rattle.c_model.specs.Macros.{same_text}
 use Rattle.c_model.specs.SameTypedefs.{same_typedef}
 use Rattle.c_model.specs.BuiltinTypes.{builtin_named, declared_type}
-use Rattle.c_model.specs.Declarations.{Declaration, is_tag, is_typedef, linkage_of, has_linkage, is_present}
+use Rattle.c_model.specs.Declarations.{Declaration, is_tag, is_typedef, linkage_of, has_linkage}
 use Rattle.c_model.specs.Scopes.{Declared, Scopes}
 use Rattle.c_model.specs.Binding.{bound, here, declared_as}
 

@@ -1,5 +1,5 @@
 -- Declarations of names (ISO/IEC 9899:2024, 6.2.1, 6.2.2, 6.7).
-use Rattle.std.specs.Prelude.{ℕ, ℤ, pos, Bool, true, false, ◌&&◌, ◌||◌, not, List, Option, Some, None, is_some}
+use Rattle.std.specs.Prelude.{ℕ, ℤ, Bool, true, false, ◌&&◌, ◌||◌, not, List, Option, Some, None, is_some}
 use Rattle.cake_base.specs.declared.places.Place.{Place}
 use Rattle.c_model.specs.declared.numbers.Basic.{Basic}
 use Rattle.c_model.specs.declared.declarations.Kind.{Kind}

@@ -1,6 +1,6 @@
 -- The grammar of the units `int main(void) { return E; }`, over tokens of C, with the core of each
 -- (ISO/IEC 9899:2024, 6.5.6, 6.5.7 and 6.9.2), and the token with which no such unit can go on.
-use Rattle.std.specs.Prelude.{◌≡◌, ℕ, zero, suc, ◌+◌, ◌<◌, ℤ, pos, true, false, if◌then◌else◌, List, [], ◌∷◌, ◌++◌, map, take, length, Result, Ok, Err, codes}
+use Rattle.std.specs.Prelude.{◌≡◌, ℕ, zero, suc, ◌+◌, ◌<◌, ℤ, pos, true, false, if◌then◌else◌, List, [], ◌∷◌, ◌++◌, map, take, length, Result, Ok, codes}
 use Rattle.cake_base.specs.declared.places.Place.{Place}
 use Rattle.c_model.specs.declared.numbers.Basic.TheVariants.{Int}
 use Rattle.c_model.specs.declared.numbers.BinOp.{BinOp}

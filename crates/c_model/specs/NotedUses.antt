@@ -6,7 +6,6 @@ use Rattle.c_model.specs.declared.declarations.Kind.{Kind}
 use Rattle.c_model.specs.declared.declarations.Kind.TheVariants.{Object, Function, TypeName, Enumerator, Tag}
 use Rattle.c_model.specs.declared.declarations.Linkage.{Linkage}
 use Rattle.c_model.specs.declared.declarations.Linkage.TheVariants.{Absent, Internal, External}
-use Rattle.c_model.specs.Declarations.{Declaration}
 use Rattle.c_model.specs.Scopes.{Declared, Scopes, changed}
 use Rattle.c_model.specs.DeclarationRules.{constraint_at}
 

@@ -1,6 +1,6 @@
 -- When a name of a type may be declared again (ISO/IEC 9899:2024, 6.7.1, 6.7.9): the types are the same
 -- in every part, `const` and `restrict` of a parameter or a result itself aside.
-use Rattle.std.specs.Prelude.{ℕ, nat_eq, Bool, true, false, ◌&&◌, Option, Some, None}
+use Rattle.std.specs.Prelude.{nat_eq, Bool, true, false, ◌&&◌}
 use Rattle.c_model.specs.Types.{CType, typed, Form, Void, Integer, Enum, Pointer, Array, Struct, Function, Types, no_types, more_types}
 use Rattle.c_model.specs.Compatible.{same_basic, same_bool, same_ownership, same_quals}
 use Rattle.c_model.specs.SameTypes.{same_length}

@@ -1,5 +1,5 @@
 -- The scopes at a point of a unit, and what is declared there (ISO/IEC 9899:2024, 6.2.1 to 6.2.3).
-use Rattle.std.specs.Prelude.{ℕ, suc, ◌+◌, nat_eq, nat_lt, Bool, true, false, if◌then◌else◌, List, [], ◌∷◌, ◌++◌, Option, Some, None, is_some}
+use Rattle.std.specs.Prelude.{ℕ, ◌+◌, nat_eq, Bool, true, false, if◌then◌else◌, List, [], ◌∷◌, ◌++◌, Option, Some, None, is_some}
 use Rattle.cake_base.specs.declared.places.Place.{Place}
 use Rattle.c_model.specs.Types.{CType}
 use Rattle.c_model.specs.Structures.{Member, Structure, completed}
