@@ -1,14 +1,12 @@
 -- The walk through a table is one: two from the same place go the same way, and make the same marks.
-use Rattle.std.proofs.Common.{◌≡◌, ℕ, ◌+◌, Bool, true, false, List, [], ◌∷◌, ◌++◌, refl, ap, sym, subst, ◌∙◌}
+use Rattle.std.proofs.Common.{◌≡◌, ℕ, Bool, true, false, List, [], ◌∷◌, ◌++◌, refl, ap, subst, ◌∙◌}
 use Rattle.std.specs.Prelude.{if◌then◌else◌}
-use Rattle.c_model.specs.declared.grammar.Rule.{Rule}
-use Rattle.c_model.specs.declared.grammar.Act.{Act}
-use Rattle.c_model.specs.GrammarForm.{Form, word, rule, empty, ◌then◌, ◌or◌, maybe, many, when, loop, mem}
+use Rattle.c_model.specs.GrammarForm.{Form, rule, ◌then◌}
 use Rattle.c_model.specs.Derivation.{Language, Derives, Begins}
 use Rattle.c_model.specs.DecidedTable.{Tables}
 use Rattle.c_model.specs.ParserWalk.{Reads, Fails}
 use Rattle.c_model.specs.WalkedDerivation.{derivation, front}
-use Rattle.c_model.specs.DepthPlace.{Piece, nothing_read, one_token, joined, chained, ends, deeper, is_chain, grown, grown_so_far}
+use Rattle.c_model.specs.DepthPlace.{Piece, nothing_read, joined, chained, ends, deeper, is_chain, grown, grown_so_far}
 use Rattle.c_model.proofs.KindSets.{clash}
 
 -- one more turn, of a chain or not
@@ -44,14 +42,14 @@ module _ (T : Tables) (L : Language) where
       → (q : Reads T L g mid' later' ys new' rest') → Alike xs ys new new' rest rest' u (growth (derivation T L q))
   carry {g = g} {mid' = mid'} {new = new} {new' = new'} {later = later} {rest = rest} {rest' = rest'} {xs = xs} {ys = ys} u e e' h =
       subst (λ l. (q : Reads T L g mid' l ys new' rest') → Alike xs ys new new' rest rest' u (growth (derivation T L q))) e'
-        (subst (λ m. (q : Reads T L g m later ys new' rest') → Alike xs ys new new' rest rest' u (growth (derivation T L q))) e h)
+      (subst (λ m. (q : Reads T L g m later ys new' rest') → Alike xs ys new new' rest rest' u (growth (derivation T L q))) e h)
 
   carry_front : {g : Form} {mid mid' : L.State} {later later' rest rest' : List L.Token} (u : Bool → ℕ → Piece → Piece) → mid ≡ mid' → later ≡ later'
       → ((q : Fails T L g mid later rest') → AlikeFronts rest rest' u (growth_so_far (front T L q)))
       → (q : Fails T L g mid' later' rest') → AlikeFronts rest rest' u (growth_so_far (front T L q))
   carry_front {g = g} {mid' = mid'} {later = later} {rest = rest} {rest' = rest'} u e e' h =
       subst (λ l. (q : Fails T L g mid' l rest') → AlikeFronts rest rest' u (growth_so_far (front T L q))) e'
-        (subst (λ m. (q : Fails T L g m later rest') → AlikeFronts rest rest' u (growth_so_far (front T L q))) e h)
+      (subst (λ m. (q : Fails T L g m later rest') → AlikeFronts rest rest' u (growth_so_far (front T L q))) e h)
 
   carry_never : {g : Form} {mid mid' : L.State} {later later' rest' : List L.Token} → mid ≡ mid' → later ≡ later'
       → ((q : Fails T L g mid later rest') → ⊥) → (q : Fails T L g mid' later' rest') → ⊥

@@ -58,6 +58,7 @@ pub mod PastDeclarators
 pub mod RegainFunction
 pub mod Loosen
 pub mod RegainUnit
+pub mod ForgetMarks
 pub mod OneAnswer
 pub mod SomeAnswer
 pub mod PpNumberLaws

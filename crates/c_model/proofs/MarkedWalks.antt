@@ -1,8 +1,7 @@
 -- A walk to a token makes the first marks of the whole walk; and there is a mark for each token that is read.
 use Rattle.std.proofs.Common.{◌≡◌, ℕ, ◌+◌, Bool, true, false, List, [], ◌∷◌, ◌++◌, length, length-append, append_assoc, append-nil, refl, ap, sym, subst, ◌∙◌, arith}
 use Rattle.std.specs.Prelude.{if◌then◌else◌}
-use Rattle.c_model.specs.declared.grammar.Rule.{Rule}
-use Rattle.c_model.specs.GrammarForm.{Form, word, rule, empty, ◌then◌, ◌or◌, maybe, many, when, loop}
+use Rattle.c_model.specs.GrammarForm.{Form, ◌then◌}
 use Rattle.c_model.specs.Derivation.{Language, Derives, Begins}
 use Rattle.c_model.specs.DecidedTable.{Tables}
 use Rattle.c_model.specs.ParserWalk.{Reads, Fails, Meets}
@@ -159,16 +158,16 @@ module _ (T : Tables) (L : Language) where
       → (q : Reads T L g mid' later' xs new rest) → Starts (u b).marks (grown L c n (derivation T L q) b').marks
   carry {g = g} {mid' = mid'} {new = new} {later = later} {rest = rest} {xs = xs} u c n b b' e e' e'' h =
       subst (λ l. (q : Reads T L g mid' l xs new rest) → Starts (u b).marks (grown L c n (derivation T L q) b').marks) e'
-        (subst (λ m. (q : Reads T L g m later xs new rest) → Starts (u b).marks (grown L c n (derivation T L q) b').marks) e
-          (λ q. subst (λ z. Starts (u b).marks (grown L c n (derivation T L q) z).marks) e'' (h q b)))
+      (subst (λ m. (q : Reads T L g m later xs new rest) → Starts (u b).marks (grown L c n (derivation T L q) b').marks) e
+      (λ q. subst (λ z. Starts (u b).marks (grown L c n (derivation T L q) z).marks) e'' (h q b)))
 
   carry_front : {g : Form} {mid mid' : L.State} {later later' rest : List L.Token} (u : Piece → Piece) (c : Bool) (n : ℕ) (b b' : Piece) → mid ≡ mid' → later ≡ later' → b ≡ b'
       → ((q : Fails T L g mid later rest) (b : Piece) → Starts (u b).marks (grown_so_far L c n (front T L q) b).marks)
       → (q : Fails T L g mid' later' rest) → Starts (u b).marks (grown_so_far L c n (front T L q) b').marks
   carry_front {g = g} {mid' = mid'} {later = later} {rest = rest} u c n b b' e e' e'' h =
       subst (λ l. (q : Fails T L g mid' l rest) → Starts (u b).marks (grown_so_far L c n (front T L q) b').marks) e'
-        (subst (λ m. (q : Fails T L g m later rest) → Starts (u b).marks (grown_so_far L c n (front T L q) b').marks) e
-          (λ q. subst (λ z. Starts (u b).marks (grown_so_far L c n (front T L q) z).marks) e'' (h q b)))
+      (subst (λ m. (q : Fails T L g m later rest) → Starts (u b).marks (grown_so_far L c n (front T L q) b').marks) e
+      (λ q. subst (λ z. Starts (u b).marks (grown_so_far L c n (front T L q) z).marks) e'' (h q b)))
 
   -- the walk to a token, and the whole
   pub met_read : {f : Form} {s new : L.State} {ts rest rest' : List L.Token} {xs : List L.Tree} (m : Meets T L f s ts rest) (p : Reads T L f s ts xs new rest') (c : Bool) (n : ℕ) (before : Piece) → Starts (grown_so_far L c n (front_with T L m) before).marks (grown L c n (derivation T L p) before).marks

@@ -1,12 +1,10 @@
 -- What is read behind parts that ended, and that no token has shown yet, makes the same piece, and its first token shows
 -- them. So a parser needs no list of marks.
-use Rattle.std.proofs.Common.{◌≡◌, ℕ, ◌+◌, ◌≤◌, Bool, true, false, List, [], ◌∷◌, ◌++◌, refl, ap, sym, ◌∙◌, arith}
+use Rattle.std.proofs.Common.{◌≡◌, ℕ, Bool, true, false, List, [], ◌∷◌, ◌++◌, refl, ap, ◌∙◌, arith}
 use Rattle.std.specs.Prelude.{max, if◌then◌else◌}
-use Rattle.c_model.specs.declared.grammar.Rule.{Rule}
 use Rattle.c_model.specs.GrammarForm.{Form}
 use Rattle.c_model.specs.Derivation.{Language, Derives, Begins}
 use Rattle.c_model.specs.DepthPlace.{Mark, Piece, nothing_read, one_token, joined, behind, chained, ends, shown, carried, deeper, is_chain, grown, grown_so_far}
-use Rattle.c_model.proofs.AlikeWalks.{per_turn, begun_turn}
 
 piece : (m m' : List Mark) (h h' e e' : ℕ) → m ≡ m' → h ≡ h' → e ≡ e' → (let p : Piece = record { marks = m; height = h; ending = e } in p) ≡ (let p : Piece = record { marks = m'; height = h'; ending = e' } in p)
 piece m m' h h' e e' p q r = rw (p, q, r) refl

@@ -1,23 +1,21 @@
 -- A list of tokens is a unit, has a first fault, or has a token in too many parts: one of the three, in one way.
-use Rattle.std.proofs.Common.{◌≡◌, ℕ, zero, suc, ◌+◌, ◌-◌, ◌<◌, ◌≤◌, Bool, true, false, List, [], ◌∷◌, ◌++◌, length, drop, refl, ap, sym, subst, ◌∙◌, arith}
-use mathlib.Core.Logic.{◌⊎◌, inl, inr}
+use Rattle.std.proofs.Common.{◌≡◌, ℕ, zero, suc, ◌+◌, ◌≤◌, true, false, List, [], ◌∷◌, ◌++◌, length, drop, refl, ap, sym, subst, ◌∙◌, arith}
 use Rattle.c_model.specs.declared.grammar.Terminal.{Terminal}
 use Rattle.c_model.specs.declared.grammar.Tree.{Tree}
-use Rattle.c_model.specs.GrammarForm.{Form, rule, mem}
+use Rattle.c_model.specs.GrammarForm.{mem}
 use Rattle.c_model.specs.NameScopes.{Scopes, start}
-use Rattle.c_model.specs.Derivation.{Derives, Begins}
+use Rattle.c_model.specs.Derivation.{Derives}
 use Rattle.c_model.specs.FaultPlace.{FaultsAt}
 use Rattle.c_model.specs.DecidedTable.{decided, within}
-use Rattle.c_model.specs.DepthPlace.{Mark, PassesLimit, AreShallow, IsFirstDeep, marks, marks_so_far, nothing_read}
+use Rattle.c_model.specs.DepthPlace.{Mark, PassesLimit, AreShallow, IsFirstDeep, marks, nothing_read}
 use Rattle.c_model.specs.LeftWeights.{IsWalkable, heaviest, rank}
-use Rattle.c_model.specs.ParserWalk.{Reads, Fails, ahead}
-use Rattle.c_model.specs.WalkedDerivation.{derivation, front}
+use Rattle.c_model.specs.ParserWalk.{ahead}
 use Rattle.c_model.specs.ParserSets.{tables, follows}
 use Rattle.c_model.specs.ParserTests.{parsed}
 use Rattle.c_model.specs.OpenTable.{opened}
 use Rattle.c_model.specs.UnitSyntax.{unit, IsUnit, IsFault, IsTooDeep, Walk, stuck, ended, walked, in_unit, before_fault}
 use Rattle.c_model.specs.OneAnswer.{ExcludeEachOther}
-use Rattle.c_model.proofs.DecidedGrammar.{refuted, no_longer}
+use Rattle.c_model.proofs.DecidedGrammar.{refuted}
 use Rattle.c_model.proofs.ParserDecided.{quiet, checked}
 use Rattle.c_model.proofs.TotalWalk.{Outcome, read, failed, ends}
 use Rattle.c_model.proofs.AlikeWalks.{alike, alike_fronts, never}
@@ -99,7 +97,7 @@ depth_twice ts j k (before_fault v f l a) (in_unit e b) = absurd (no_unit f e)
 depth_twice ts j k (before_fault v f l a) (before_fault w g m b) = one_first (walked v) j k a (subst (λ z. IsFirstDeep z k) (same_walk w v) b)
 
 unit_not_deep : (ts : List Terminal) (xs : List Tree) (k : ℕ) → IsUnit ts xs → IsTooDeep ts k → ⊥
-unit_not_deep ts xs k u (in_unit e b) = not_both (marks parsed u.alone.derived) k u.shallow (subst (λ z. IsFirstDeep z k) (same_marks e u.alone.derived) b)
+unit_not_deep ts xs k u (in_unit e b) = not_both (marks parsed u.alone.derived) k (subst AreShallow u.parts u.shallow) (subst (λ z. IsFirstDeep z k) (same_marks e u.alone.derived) b)
 unit_not_deep ts xs k u (before_fault w f l b) = no_unit f u.alone.derived
 
 fault_not_deep : (ts : List Terminal) (j k : ℕ) → IsFault ts j → IsTooDeep ts k → ⊥

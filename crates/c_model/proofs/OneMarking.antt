@@ -1,14 +1,13 @@
 -- Where one token decides each choice, all derivations of the same tokens make the same marks.
-use Rattle.std.proofs.Common.{◌≡◌, ℕ, Bool, true, false, not, ◌&&◌, List, [], ◌∷◌, ◌++◌, refl, ap, sym, subst, ◌∙◌}
+use Rattle.std.proofs.Common.{◌≡◌, ℕ, Bool, true, false, not, ◌&&◌, List, ◌++◌, refl, ap, sym, subst, ◌∙◌}
 use Rattle.std.specs.Prelude.{if◌then◌else◌}
-use mathlib.Core.Logic.{inl, inr}
 use Rattle.c_model.specs.declared.grammar.Rule.{Rule}
 use Rattle.c_model.specs.GrammarForm.{Form, rule, ◌then◌, ◌or◌, maybe, many, when, loop, mem}
 use Rattle.c_model.specs.Derivation.{Language, Derives}
 use Rattle.c_model.specs.DecidedTable.{Tables, nullable, first, leads, apart, decided, table_decided}
-use Rattle.c_model.specs.ParserWalk.{Reads, IsQuiet, ahead, goes_left}
+use Rattle.c_model.specs.ParserWalk.{Reads, IsQuiet, ahead}
 use Rattle.c_model.specs.WalkedDerivation.{derivation}
-use Rattle.c_model.specs.DepthPlace.{Piece, nothing_read, joined, chained, ends, deeper, is_chain, grown}
+use Rattle.c_model.specs.DepthPlace.{Piece, nothing_read, joined, ends, deeper, is_chain, grown}
 use Rattle.c_model.proofs.KindSets.{and_left, and_right, not_true, clash, within_mem, apart_mem}
 use Rattle.c_model.proofs.DecidedGrammar.{step, lead, unique, not_left, not_right, ahead_keeps, moved, within_rule}
 use Rattle.c_model.proofs.AlikeWalks.{per_turn}
@@ -19,8 +18,8 @@ module _ (T : Tables) (L : Language) (quiet : IsQuiet T L) (ok : (r : Rule) → 
       → (d : Derives L g mid later xs new rest) → mem (ahead T L new rest) F ≡ true → grown L c n d b ≡ u b'
   carry {g = g} {mid = mid} {new = new} {later = later} {later' = later'} {rest = rest} {xs = xs} c n b b' u F e e' e'' h =
       subst (λ l. (d : Derives L g mid l xs new rest) → mem (ahead T L new rest) F ≡ true → grown L c n d b ≡ u b') (sym e')
-        (subst (λ m. (d : Derives L g m later' xs new rest) → mem (ahead T L new rest) F ≡ true → grown L c n d b ≡ u b') (sym e)
-          (λ d k. h d k b ∙ ap u e''))
+      (subst (λ m. (d : Derives L g m later' xs new rest) → mem (ahead T L new rest) F ≡ true → grown L c n d b ≡ u b') (sym e)
+      (λ d k. h d k b ∙ ap u e''))
 
   pub one_marking : {f : Form} {s new' : L.State} {ts rest' : List L.Token} {ys : List L.Tree} (p : Reads T L f s ts ys new' rest')
       → (F : List ℕ) → decided T f F ≡ true → {new : L.State} {rest : List L.Token} {xs : List L.Tree} (d : Derives L f s ts xs new rest) → mem (ahead T L new rest) F ≡ true

@@ -1,24 +1,23 @@
 -- What the walk through the parser's table says of a list of tokens; and each list has an answer.
-use Rattle.std.proofs.Common.{◌≡◌, ℕ, zero, suc, ◌+◌, ◌-◌, ◌<◌, ◌≤◌, false, List, [], ◌∷◌, ◌++◌, length, drop, append_assoc, refl, ap, sym, subst, ◌∙◌, arith}
+use Rattle.std.proofs.Common.{◌≡◌, ℕ, suc, ◌+◌, ◌-◌, ◌<◌, ◌≤◌, false, List, [], ◌∷◌, ◌++◌, length, drop, append_assoc, refl, ap, sym, subst, ◌∙◌, arith}
 use Rattle.std.proofs.lemmas.Bool.{cases_lt}
 use mathlib.Core.Logic.{◌⊎◌, inl, inr}
 use Rattle.c_model.specs.declared.grammar.Terminal.{Terminal}
 use Rattle.c_model.specs.declared.grammar.Tree.{Tree}
-use Rattle.c_model.specs.GrammarForm.{Form}
 use Rattle.c_model.specs.NameScopes.{Scopes, start}
-use Rattle.c_model.specs.Derivation.{Derives, Begins}
+use Rattle.c_model.specs.Derivation.{Begins}
 use Rattle.c_model.specs.FaultPlace.{FaultsAt}
 use Rattle.c_model.specs.DepthPlace.{Mark, PassesLimit, AreShallow, IsFirstDeep, EndsDeep, max_parts, marks, marks_so_far, nothing_read}
 use Rattle.c_model.specs.ParserWalk.{Reads, Fails, Meets}
 use Rattle.c_model.specs.WalkedDerivation.{derivation, front, front_with}
 use Rattle.c_model.specs.ParserSets.{tables}
 use Rattle.c_model.specs.ParserTests.{parsed}
-use Rattle.c_model.specs.OpenTable.{opened}
 use Rattle.c_model.specs.UnitSyntax.{unit, IsUnit, IsFault, IsTooDeep, Walk, stuck, ended, walked, in_unit, before_fault}
 use Rattle.c_model.specs.OneAnswer.{HasAnswer}
 use Rattle.c_model.proofs.DecidedGrammar.{unique, sound, begun, read_so_far, refuted, ended as goes_no_further, first_fault, no_longer, behind}
 use Rattle.c_model.proofs.ParserDecided.{quiet, checked}
-use Rattle.c_model.proofs.Forget.{forget_unit, forget_begun_unit}
+use Rattle.c_model.proofs.Forget.{forget_begun_unit}
+use Rattle.c_model.proofs.ForgetMarks.{same_parts}
 use Rattle.c_model.proofs.RegainUnit.{open_fault}
 use Rattle.c_model.proofs.TotalWalk.{Outcome, read, failed, ends}
 use Rattle.c_model.proofs.MarkedWalks.{Starts, met_read, met_failed, derived_length, begun_length}
@@ -79,11 +78,12 @@ pub whole : {ts rest : List Terminal} {xs : List Tree} {new : Scopes} (p : Reads
 whole {ts = ts} {xs = xs} {new = new} p e h = by e p h
   where
     here : (p : Reads tables parsed unit start ts xs new []) → AreShallow (marks parsed (derivation tables parsed p)) → IsUnit ts xs
-    here p h = record {
+    here p h = let g = same_parts ts xs new [] (derivation tables parsed p) in record {
       scopes = new;
-      derived = forget_unit ts xs new [] (derivation tables parsed p);
+      derived = g.0;
       alone = record { scopes = new; derived = derivation tables parsed p; alone = λ ys z k. (unique tables parsed quiet checked p (0 ∷ []) before_end k (at_end z)).trees };
-      shallow = h;
+      parts = g.1;
+      shallow = subst AreShallow (sym g.1) h;
     }
 
     by : {rest : List Terminal} → rest ≡ [] → (p : Reads tables parsed unit start ts xs new rest) → AreShallow (marks parsed (derivation tables parsed p)) → IsUnit ts xs

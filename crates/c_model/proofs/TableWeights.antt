@@ -1,5 +1,5 @@
 -- Each nonterminal of the parser's table weighs more than its right side, and none is heavy.
-use Rattle.std.proofs.Common.{◌≡◌, ◌≤◌, ◌<◌, arith}
+use Rattle.std.proofs.Common.{◌≤◌, ◌<◌, arith}
 use Rattle.c_model.specs.declared.grammar.Rule.{Rule}
 use Rattle.c_model.specs.declared.grammar.Rule.TheVariants as r
 use Rattle.c_model.specs.DecidedTable.{nullable}

@@ -1,7 +1,7 @@
 -- The walk through the parser's table ends, wherever it begins: it reads what it looks for, or fails.
-use Rattle.std.proofs.Common.{◌≡◌, ℕ, zero, suc, ◌+◌, ◌*◌, ◌<◌, ◌≤◌, Bool, true, false, not, ◌&&◌, List, [], ◌∷◌, ◌++◌, length, refl, ap, sym, arith}
+use Rattle.std.proofs.Common.{◌≡◌, ℕ, zero, suc, ◌+◌, ◌*◌, ◌<◌, ◌≤◌, Bool, true, false, not, ◌&&◌, List, [], ◌∷◌, ◌++◌, length, refl, ap, arith}
 use Rattle.std.specs.Prelude.{max, if◌then◌else◌}
-use mathlib.Core.Logic.{◌⊎◌, inl, inr}
+use mathlib.Core.Logic.{inl, inr}
 use Rattle.c_model.specs.declared.grammar.Rule.{Rule}
 use Rattle.c_model.specs.declared.grammar.Test.{Test}
 use Rattle.c_model.specs.declared.grammar.Terminal.{Terminal}
@@ -9,7 +9,7 @@ use Rattle.c_model.specs.declared.grammar.Tree.{Tree}
 use Rattle.c_model.specs.GrammarForm.{Form, word, rule, empty, ◌then◌, ◌or◌, maybe, many, when, loop, mem}
 use Rattle.c_model.specs.NameScopes.{Scopes, kind}
 use Rattle.c_model.specs.DecidedTable.{nullable, first, leads, apart, decided}
-use Rattle.c_model.specs.LeftWeights.{rank, weight, heaviest, IsWalkable}
+use Rattle.c_model.specs.LeftWeights.{weight, heaviest, IsWalkable}
 use Rattle.c_model.specs.ParserWalk.{Reads, Fails, ahead, goes_left}
 use Rattle.c_model.specs.ParserTable.{table}
 use Rattle.c_model.specs.ParserSets.{tables, follows}

@@ -1,9 +1,10 @@
 -- What the grammar says of a list of tokens: they are a unit, they have a first faulty token, or a token is met in too
 -- many parts. That a unit is derived, and that the tokens before a fault are begun, is said of the grammar itself; that
 -- there is no other tree, of the parser's table; that the tokens are no unit and that no longer front is begun, of that
--- table without the tests that are proved to lose nothing. The parts are those of the derivation by the parser's table,
--- which is the only one, and where the tokens are no unit those of its walk to the fault.
-use Rattle.std.specs.Prelude.{ℕ, ◌<◌, List, [], ◌∷◌, drop}
+-- table without the tests that are proved to lose nothing. The parts of a unit are those of the derivation by the
+-- parser's table, and the grammar derives it with the same parts; where the tokens are no unit, the parts are those of
+-- the walk through that table to the fault.
+use Rattle.std.specs.Prelude.{ℕ, ◌≡◌, ◌<◌, List, [], ◌∷◌, drop}
 use Rattle.c_model.specs.declared.grammar.Rule.TheVariants as r
 use Rattle.c_model.specs.declared.grammar.Terminal.{Terminal}
 use Rattle.c_model.specs.declared.grammar.Tree.{Tree}
@@ -22,12 +23,18 @@ use Rattle.c_model.specs.OpenTable.{opened}
 abbrev pub unit : Form
 unit = rule r.Unit
 
--- the grammar derives all tokens, as these trees, and none is met in too many parts
+-- the grammar derives all tokens, as these trees and with these marks
+pub record HasParts (ts : List Terminal) (xs : List Tree) (scopes : Scopes) (ms : List Mark) : Type 0 where
+  pub derived : Derives c_language unit start ts xs scopes []
+  pub parts : marks c_language derived ≡ ms
+
+-- the grammar derives all tokens, as these trees and with the parts of the parser's table, and none is met in too many
 pub record IsUnit (ts : List Terminal) (xs : List Tree) : Type 0 where
   pub scopes : Scopes
   pub derived : Derives c_language unit start ts xs scopes []
   pub alone : IsWhole parsed unit start ts xs
-  pub shallow : AreShallow (marks parsed alone.derived)
+  pub parts : marks c_language derived ≡ marks parsed alone.derived
+  pub shallow : AreShallow (marks c_language derived)
 
 -- the walk to the first token with which the parser's table can't go on: it finds no word for it, or is at its end
 pub data Walk : List Terminal → List Terminal → Type 0 where

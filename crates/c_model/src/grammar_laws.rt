@@ -5,6 +5,7 @@ ghost use Rattle.c_model.specs.declared.grammar.Rule.TheVariants as r;
 ghost use Rattle.c_model.specs.declared.grammar.Terminal.{Terminal};
 ghost use Rattle.c_model.specs.declared.grammar.Tree.{Tree};
 ghost use Rattle.c_model.specs.DecidedTable.{table_decided};
+ghost use Rattle.c_model.specs.DepthPlace.{marks};
 ghost use Rattle.c_model.specs.Derivation.{Derives, Begins};
 ghost use Rattle.c_model.specs.GrammarForm.{rule};
 ghost use Rattle.c_model.specs.NameScopes.{Scopes, start};
@@ -12,7 +13,7 @@ ghost use Rattle.c_model.specs.SyntaxTree.{c_language};
 ghost use Rattle.c_model.specs.Grammar.{grammar};
 ghost use Rattle.c_model.specs.OpenTable.{opened};
 ghost use Rattle.c_model.specs.OneAnswer.{ExcludeEachOther, HasAnswer};
-ghost use Rattle.c_model.specs.UnitSyntax.{IsTooDeep};
+ghost use Rattle.c_model.specs.UnitSyntax.{IsTooDeep, HasParts};
 ghost use Rattle.c_model.specs.Untested.{untested};
 ghost use Rattle.c_model.specs.ParserSets.{tables};
 ghost use Rattle.c_model.specs.ParserTable.{table};
@@ -88,4 +89,10 @@ pub fn some_answer_of_grammar()
 #[tactic(auto, using(crate::proofs::SomeAnswer::at_token))]
 pub fn too_deep_at_token()
     ensures { (ts : List Terminal) (k : ℕ) → IsTooDeep ts k → k < length ts }
+{}
+
+/// The grammar derives what the parser's table derives, as the same trees and with the same parts round each token.
+#[tactic(auto, using(crate::proofs::ForgetMarks::with_parts))]
+pub fn parts_are_the_grammars()
+    ensures { (ts : List Terminal) (xs : List Tree) (new : Scopes) (d : Derives parsed (rule r.Unit) start ts xs new []) → HasParts ts xs new (marks parsed d) }
 {}

@@ -8,7 +8,7 @@ use Rattle.c_model.specs.GrammarForm.{Form, rule, ◌then◌, ◌or◌, maybe, m
 use Rattle.c_model.specs.NameScopes.{Scopes}
 use Rattle.c_model.specs.LeftWeights.{weight, IsWalkable}
 use Rattle.c_model.specs.ParserTable.{table}
-use Rattle.c_model.proofs.TotalWalk.{falls_rule, falls_first, falls_second, falls_or, falls_when, falls_maybe, falls_many, falls_loop}
+use Rattle.c_model.proofs.TotalWalk.{falls_rule, falls_first, falls_second, falls_or, falls_when, falls_maybe}
 use Rattle.c_parser.specs.declared.heights.Heights.{Heights}
 use Rattle.c_parser.specs.declared.heights.Context.{Context}
 use Rattle.c_parser.specs.declared.reader.Reader.{Reader}

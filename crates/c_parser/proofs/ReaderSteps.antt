@@ -1,16 +1,16 @@
 -- What each step of the reading shows.
-use Rattle.std.proofs.Common.{◌≡◌, ℕ, ◌+◌, ◌<◌, ◌≤◌, Bool, true, false, List, [], ◌∷◌, ◌++◌, length, refl, ap, sym, subst, ◌∙◌, arith, append_assoc, append-nil, Result, Ok, Err}
+use Rattle.std.proofs.Common.{◌≡◌, ℕ, Bool, true, false, List, [], ◌∷◌, ◌++◌, refl, ap, sym, subst, ◌∙◌, append_assoc, append-nil, Result, Ok, Err}
 use Rattle.std.specs.Prelude.{if◌then◌else◌}
 use Rattle.c_model.specs.declared.grammar.Rule.{Rule}
 use Rattle.c_model.specs.declared.grammar.Act.{Act}
 use Rattle.c_model.specs.declared.grammar.Test.{Test}
 use Rattle.c_model.specs.declared.grammar.Terminal.{Terminal}
 use Rattle.c_model.specs.declared.grammar.Tree.{Tree}
-use Rattle.c_model.specs.GrammarForm.{Form, word, rule, empty, ◌then◌, ◌or◌, maybe, many, when, loop, mem}
+use Rattle.c_model.specs.GrammarForm.{Form, word, rule, empty, ◌then◌, ◌or◌, maybe, when, mem}
 use Rattle.c_model.specs.Grammar.{is_part}
 use Rattle.c_model.specs.NameScopes.{Scopes, kind, after}
 use Rattle.c_model.specs.DecidedTable.{first}
-use Rattle.c_model.specs.DepthPlace.{Mark, Piece, PassesLimit, AreShallow, EndsDeep, nothing_read, one_token, joined, chained, behind, shown, ends, deeper, is_chain, grown, grown_so_far}
+use Rattle.c_model.specs.DepthPlace.{Mark, Piece, AreShallow, EndsDeep, nothing_read, one_token, joined, behind, shown, ends, deeper, is_chain, grown, grown_so_far}
 use Rattle.c_model.specs.ParserWalk.{Reads, Fails, Meets, ahead, goes_left}
 use Rattle.c_model.specs.WalkedDerivation.{derivation, front, front_with}
 use Rattle.c_model.specs.ParserTable.{table}
@@ -23,7 +23,7 @@ use Rattle.c_parser.specs.declared.reader.Reader.{Reader}
 use Rattle.c_parser.specs.declared.reader.Stop.{Stop}
 use Rattle.c_parser.specs.declared.reader.Stop.TheVariants as stop
 use Rattle.c_parser.specs.Counting.{counted, Counts, Stands, Tells, next_mark}
-use Rattle.c_parser.specs.Reading.{Read, Failed, Met, Told, ReadTurn, FailedTurn, MetTurn, ToldTurn}
+use Rattle.c_parser.specs.Reading.{Read, Failed, Met, Told}
 
 -- ---- marks
 

@@ -1,5 +1,5 @@
 -- What one more turn of a repeated form shows, and what all turns show.
-use Rattle.std.proofs.Common.{◌≡◌, ℕ, ◌+◌, ◌<◌, ◌≤◌, Bool, true, false, not, List, [], ◌∷◌, ◌++◌, length, refl, ap, sym, subst, ◌∙◌, arith, append_assoc, append-nil, Result, Ok, Err}
+use Rattle.std.proofs.Common.{◌≡◌, ℕ, ◌<◌, ◌≤◌, Bool, true, false, not, List, [], ◌++◌, length, refl, ap, sym, subst, ◌∙◌, arith, append_assoc, append-nil, Err}
 use Rattle.std.specs.Prelude.{if◌then◌else◌}
 use Rattle.c_model.specs.declared.grammar.Test.{Test}
 use Rattle.c_model.specs.declared.grammar.Terminal.{Terminal}
@@ -21,7 +21,7 @@ use Rattle.c_parser.specs.declared.reader.Reader.{Reader}
 use Rattle.c_parser.specs.declared.reader.Stop.{Stop}
 use Rattle.c_parser.specs.declared.reader.Stop.TheVariants as stop
 use Rattle.c_parser.specs.Counting.{Counts, Stands}
-use Rattle.c_parser.specs.Reading.{Read, Failed, Met, Told, ReadTurn, FailedTurn, MetTurn, ToldTurn}
+use Rattle.c_parser.specs.Reading.{Read, Told, ReadTurn, ToldTurn}
 use Rattle.c_parser.proofs.ReaderSteps.{both_shallow, later_deep}
 
 -- ---- one turn

@@ -1,5 +1,5 @@
 -- What the reading of a form shows.
-use Rattle.std.specs.Prelude.{ℕ, ◌≡◌, ◌≤◌, Bool, if◌then◌else◌, false, List, [], ◌∷◌, ◌++◌, length, Result, Ok, Err}
+use Rattle.std.specs.Prelude.{ℕ, ◌≡◌, if◌then◌else◌, false, List, ◌∷◌, ◌++◌, Result, Ok, Err}
 use Rattle.c_parser.specs.declared.heights.Heights.{Heights}
 use Rattle.c_parser.specs.declared.heights.Context.{Context}
 use Rattle.c_parser.specs.declared.reader.Reader.{Reader}

@@ -52,9 +52,10 @@ fn depth_limit(toks: &CList, at: usize, end: Place) -> LimitHit
 /// The trees of a translation unit (ISO/IEC 9899:2024, 6.9), which are one.
 ///
 /// `end` is the place behind the last token. `ParseError::Fault` is S01 at the first token with which no unit can go on,
-/// or at `end` where the tokens are the front of a unit and no unit. `ParseError::Limit` is M06 at a token that stands
-/// in more than 1,000 nested parts. `ParseError::NoMemory` comes for a list that no text gives, too: one with a word or
-/// a punctuator that has no number of the vocabulary, or with an identifier behind 4,294,967,296 tokens.
+/// or at `end` where the tokens are the front of a unit and no unit. `ParseError::Limit` is M06 at the first token that
+/// lies in more than 1,000 parts, or just before which a part ended that is more than 1,000 high, where it stands before
+/// the first fault. `ParseError::NoMemory` comes for a list that no text gives, too: one with a word or a punctuator that
+/// has no number of the vocabulary, or with an identifier behind 4,294,967,296 tokens.
 pub fn parse(alloc: Global, toks: &CList, end: Place) -> Result<Items<Tree>, ParseError>
     ensures { Answers toks.now end result }
 {

@@ -30,6 +30,7 @@ const UNIT: &Form = &Form::Rule(Rule::Unit);
 /// The tree is one that the grammar derives, and the only one of the parser's table. The tokens before a fault begin a
 /// unit by the grammar, and no longer front does by the open table: the grammar, but that lists of type specifiers and
 /// the braces of `struct` and `enum` take what comes next, and `[` and `[` begin attributes where an array may follow.
+/// Parts are those of the derivation, and where there is none those of the walk to the fault.
 pub fn parse_terminals(alloc: Global, tokens: &[Terminal]) -> Result<Items<Tree>, Refusal>
     ensures { Parsed tokens.now result }
 {
@@ -39,13 +40,7 @@ pub fn parse_terminals(alloc: Global, tokens: &[Terminal]) -> Result<Items<Tree>
         heights: Heights::none(),
     };
     let mut trees = Items::new(alloc);
-    match read(
-        alloc,
-        &mut reader,
-        UNIT,
-        Context::outermost(),
-        &mut trees,
-    ) {
+    match read(alloc, &mut reader, UNIT, Context::outermost(), &mut trees) {
         Ok(()) => {
             if reader.rest.is_empty() {
                 Ok(trees)

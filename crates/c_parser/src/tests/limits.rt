@@ -120,6 +120,184 @@ fn nested_parts(rt: HostRuntime) -> Result<(), Fail> {
     Ok(())
 }
 
+/// A chain grows by one at each operator, and a part that is too high is met at the token behind it.
+#[test]
+fn high_chains(rt: HostRuntime) -> Result<(), Fail> {
+    let rows = [
+        (
+            Nested {
+                before: "int f(void) { 1",
+                part: "+1",
+                times: 996,
+                after: ";}",
+            },
+            2008,
+        ),
+        (
+            Nested {
+                before: "int f(void) { 1",
+                part: "+1",
+                times: 995,
+                after: ";}",
+            },
+            2007,
+        ),
+        (
+            Nested {
+                before: "int f(void) { 1",
+                part: "+1",
+                times: 994,
+                after: ";}",
+            },
+            0,
+        ),
+        (
+            Nested {
+                before: "int f(void) { 1",
+                part: "+1",
+                times: 994,
+                after: ";} int g;",
+            },
+            2007,
+        ),
+        (
+            Nested {
+                before: "int f(void) { 1",
+                part: ",1",
+                times: 996,
+                after: ";}",
+            },
+            2008,
+        ),
+        (
+            Nested {
+                before: "int f(void) { x",
+                part: ".a",
+                times: 996,
+                after: ";}",
+            },
+            2008,
+        ),
+        (
+            Nested {
+                before: "int f(void) { x",
+                part: "[0]",
+                times: 991,
+                after: ";}",
+            },
+            2989,
+        ),
+        (
+            Nested {
+                before: "int f(void) { x",
+                part: "[0]",
+                times: 990,
+                after: ";}",
+            },
+            2987,
+        ),
+    ];
+    for (nested, column) in rows {
+        assert_eq!(rt; limit_column(rt.alloc(), &nested)?, column);
+    }
+    Ok(())
+}
+
+/// Each `else if` is one part more.
+#[test]
+fn ladder(rt: HostRuntime) -> Result<(), Fail> {
+    let rows = [
+        (
+            Nested {
+                before: "int f(void) { ",
+                part: "if(1);else ",
+                times: 1200,
+                after: ";}",
+            },
+            10952,
+        ),
+        (
+            Nested {
+                before: "int f(void) { ",
+                part: "if(1);else ",
+                times: 994,
+                after: ";}",
+            },
+            0,
+        ),
+    ];
+    for (nested, column) in rows {
+        assert_eq!(rt; limit_column(rt.alloc(), &nested)?, column);
+    }
+    Ok(())
+}
+
+/// What is no chain doesn't grow, and at one token a fault comes before a part that is too high.
+#[test]
+fn no_chains(rt: HostRuntime) -> Result<(), Fail> {
+    let rows = [
+        (
+            Nested {
+                before: "int f(void) { g(1",
+                part: ",1",
+                times: 2000,
+                after: "); }",
+            },
+            0,
+        ),
+        (
+            Nested {
+                before: "int a[] = { 1",
+                part: ", 1",
+                times: 2000,
+                after: " }, b[2];",
+            },
+            0,
+        ),
+        (
+            Nested {
+                before: "int f(void) { ",
+                part: "if(1);else ",
+                times: 994,
+                after: ";} int g;",
+            },
+            0,
+        ),
+        (
+            Nested {
+                before: "int f(void) { 1",
+                part: "+1",
+                times: 996,
+                after: "]",
+            },
+            2008,
+        ),
+        (
+            Nested {
+                before: "int f(void) { 1",
+                part: "+1",
+                times: 994,
+                after: ";",
+            },
+            2005,
+        ),
+        (
+            Nested {
+                before: "int main(void) { return ",
+                part: "(",
+                times: 199,
+                after: ")",
+            },
+            224,
+        ),
+    ];
+    for (nested, column) in rows {
+        let text = text(rt.alloc(), &nested)?;
+        assert_eq!(rt; fault_column(rt.alloc(), text.as_str())?, column);
+    }
+    Ok(())
+}
+
 #[test]
 fn long_lists(rt: HostRuntime) -> Result<(), Fail> {
     let rows = [

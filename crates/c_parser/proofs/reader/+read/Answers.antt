@@ -1,7 +1,6 @@
-use Rattle.std.proofs.Common.{◌≡◌, ◌+◌, ◌*◌, length, sym, subst, ap, ◌∙◌}
+use Rattle.std.proofs.Common.{sym, subst, ◌∙◌}
 use Rattle.std.proofs.lemmas.Result.{err_from_is_err_and}
-use Rattle.c_model.specs.GrammarForm.{rule, many, loop}
-use Rattle.c_model.specs.LeftWeights.{weight, IsWalkable}
+use Rattle.c_model.specs.LeftWeights.{IsWalkable}
 use Rattle.c_model.proofs.TotalWalk.{rule_walkable, then_walkable, or_walkable, when_walkable, maybe_walkable, many_walkable, loop_walkable}
 use Rattle.c_parser.specs.View.{form}
 use Rattle.c_parser.proofs.ReaderSteps.{then_told, first_told, left_told, right_told, take_told, chosen_told, other_told, none_told, skip_told, rule_told, rule_stops}
