@@ -23,4 +23,6 @@ pub use errors::ScopeError;
 pub use scopes::Scopes;
 
 #[cfg(test)]
+mod size_tests;
+#[cfg(test)]
 mod tests;

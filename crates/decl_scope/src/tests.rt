@@ -1,7 +1,8 @@
 //! Scripts of declarations with what they answer: a row is a unit in short, a step of it a line.
-ghost use Rattle.std.specs.Prelude.{◌≡◌, ℕ, pos, None, Some, IsTrue, IfOk};
+ghost use Rattle.std.specs.Prelude.{◌≡◌, ℕ, List, pos, None, Some, IsTrue, IfOk};
 ghost use Rattle.c_model.specs.Types.{form_of_type};
-ghost use Rattle.c_model.specs.Structures.{names_below};
+ghost use Rattle.c_model.specs.Structures.{Structure, names_below};
+ghost use Rattle.c_model.specs.Layout.{is_complete};
 ghost use Rattle.c_model.specs.Declarations as d;
 ghost use Rattle.c_model.specs.Scopes as m;
 
@@ -22,9 +23,10 @@ const PLAIN: Quals = Quals {
     has_opt: false,
 };
 
-fn int(alloc: Global, basic: Basic) -> Result<CType, NoMemory>
+pub fn int(alloc: Global, basic: Basic) -> Result<CType, NoMemory>
     ensures known { IfOk result (λ t. (n : ℕ) → IsTrue (names_below n t)) }
     ensures integer { IfOk result (λ t. IsTrue (d.fits_kind Kind.Enumerator (form_of_type t) (Some (record { value = pos 0; basic = basic })))) }
+    ensures complete { IfOk result (λ t. (ss : List Structure) → IsTrue (is_complete ss t)) }
 {
     CType::new(alloc, TypeForm::Integer(basic), PLAIN)
 }
@@ -144,7 +146,7 @@ fn is_function(ty: &CType) -> bool
 }
 
 /// What has a type: a function or an object.
-fn kind_of(ty: &CType) -> Kind
+pub fn kind_of(ty: &CType) -> Kind
     ensures { IsTrue (d.fits_kind result (form_of_type ty.now) None) }
 {
     if is_function(ty) {
@@ -154,7 +156,7 @@ fn kind_of(ty: &CType) -> Kind
     }
 }
 
-fn at(line: u32) -> Place {
+pub fn at(line: u32) -> Place {
     Place {
         file: 0,
         line,
@@ -163,14 +165,14 @@ fn at(line: u32) -> Place {
     }
 }
 
-fn text(alloc: Global, name: &str) -> Result<Bytes, NoMemory> {
+pub fn text(alloc: Global, name: &str) -> Result<Bytes, NoMemory> {
     let mut bytes = Bytes::new(alloc);
     bytes.push(name.as_bytes())?;
     Ok(bytes)
 }
 
 /// A declaration of a type that names no structure.
-fn declare(scopes: &mut Scopes, entry: Entry) -> Result<DeclId, ScopeError>
+pub fn declare(scopes: &mut Scopes, entry: Entry) -> Result<DeclId, ScopeError>
     requires fits { IsTrue (d.fits entry) }
     requires known { (n : ℕ) → IsTrue (names_below n entry.ty) }
 {
@@ -503,7 +505,11 @@ fn take(
 }
 
 /// Adds an incomplete structure, where there is room for one.
-fn add_struct(scopes: &mut Scopes, tag: Option<Bytes>, line: u32) -> Result<StructId, NoMemory> {
+pub fn add_struct(
+    scopes: &mut Scopes,
+    tag: Option<Bytes>,
+    line: u32,
+) -> Result<StructId, NoMemory> {
     if scopes.structs().count() < u32::MAX {
         return scopes.add_struct(tag, at(line));
     }
