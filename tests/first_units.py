@@ -62,7 +62,7 @@ ROWS = [
     (["a.c"], "typedef int T; T f(T);", 1, "", "a.c:1:1: not built yet\n"),
     (["a.c"], "int f(void) { T * x; }", 1, "", "a.c:1:5: not built yet\n"),
     (["a.c"], "int main(void) { int x = ; return 08; }", 1, "", "a.c:1:35: error L05: malformed number or suffix\n"),
-    (["a.c"], "int main(void) { x: : }", 1, "", "a.c:1:21: error S01: syntax error\n"),
+    (["a.c"], "int main(void) { x: : }", 1, "", "a.c:1:19: error S01: syntax error\n"),
     (["a.c"], "int x;" * 300000, 1, "", "a.c:1:5: not built yet\n"),
     (["a.c"], "int x;" * 300000 + "}", 1, "", "a.c:1:1800001: error S01: syntax error\n"),
     (["-E", "a.c"], "int main(void) { return 1 +; }", 0, "int main ( void ) { return 1 + ; }\n", ""),
