@@ -18,7 +18,7 @@ use Rattle.c_model.specs.ParserSets.{tables}
 use Rattle.c_model.specs.ParserTests.{parsed, past_brackets}
 use Rattle.c_model.proofs.KindSets.{and_left, and_right, or_cases, within_mem, apart_mem}
 use Rattle.c_model.proofs.TokenKinds.{decide}
-use Rattle.c_model.proofs.ClearBrackets.{holds, closing, at_closing, kept, closed_keeps}
+use Rattle.c_model.proofs.ClearBrackets.{over, holds, closing, at_closing, kept, closed_keeps}
 use Rattle.c_model.proofs.BracketKinds.{opening, brackets, opening_kind, not_both, closing_kind, IsHeld, held_kind, no_opening, no_closing}
 
 unfoldable pub pred : ℕ → ℕ
@@ -301,29 +301,33 @@ from_inside n s mid new ts rest p b = record { at = λ k. ap (λ m. past_bracket
     into : (n k m : ℕ) → suc (k + (n + m)) ≡ suc ((k + n) + (0 + m))
     into n k m = omega arith
 
+module _ (body : Rule → Form) (ok : (n : Rule) → even (body n) 0 ≡ true) (flat : (n : Rule) → level (body n) 0 ≡ 0) where
+  pub passes : {f : Form} {s new : Scopes} {ts rest : List Terminal} {xs : List Tree} → Derives (over body) f s ts xs new rest → (n : ℕ) → even f n ≡ true → Passes n (level f n) s ts new rest
+  unfolding even level
+  passes {f = word ks a} (Derives.a_word {s = s} {t = t} {ts = ts} e) n h = elim (or_cases (holds a) _ (and_right (fits ks a) _ h)) [
+    | inl o ↦ held_word ks a n s t ts o (and_left (fits ks a) _ h) e
+    | inr w ↦ word_case (holds a) refl w
+  ]
+    where
+      word_case : (b : Bool) → holds a ≡ b → (within tables ks opening || ((within tables ks closing && is_some n) || apart tables ks brackets)) ≡ true → Passes n (level (word ks a) n) s (t ∷ ts) (after a s t) ts
+      word_case true q w = held_word ks a n s t ts q (and_left (fits ks a) _ h) e
+      word_case false q w = plain_word ks a n s t ts q w e
+  passes {f = rule m} {s = s} {ts = ts} {rest = rest} (Derives.a_rule {new = mid} d) n h =
+      from_inside n s mid _ ts rest (subst (λ z. Passes 0 z s ts mid rest) (flat m) (passes d 0 (ok m))) (closed_keeps m mid)
+  passes Derives.nothing n h = record { at = λ k. refl }
+  passes {f = f then g} (Derives.both d e _) n h = joined (passes d n (and_left (even f n) _ h)) (passes e (level f n) (and_right (even f n) _ h))
+  passes {f = f or g} (Derives.left d) n h = passes d n (and_left (even f n) _ h)
+  passes {f = f or g} {s = s} {new = new} {ts = ts} {rest = rest} (Derives.right d) n h =
+      subst (λ z. Passes n z s ts new rest) (same_level (level g n) (level f n) (and_right (even g n) _ (and_right (even f n) _ h))) (passes d n (and_left (even g n) _ (and_right (even f n) _ h)))
+  passes Derives.skip n h = record { at = λ k. refl }
+  passes {f = maybe f} {s = s} {new = new} {ts = ts} {rest = rest} (Derives.take d) n h = subst (λ z. Passes n z s ts new rest) (same_level (level f n) n (and_right (even f n) _ h)) (passes d n (and_left (even f n) _ h))
+  passes Derives.stop n h = record { at = λ k. refl }
+  passes {f = many f} {s = s} {ts = ts} (Derives.turn {mid = mid} {later = later} d e _) n h = joined (subst (λ z. Passes n z s ts mid later) (same_level (level f n) n (and_right (even f n) _ h)) (passes d n (and_left (even f n) _ h))) (passes e n h)
+  passes {f = when p f g} (Derives.chosen _ d) n h = passes d n (and_left (even f n) _ h)
+  passes {f = when p f g} {s = s} {new = new} {ts = ts} {rest = rest} (Derives.other _ d) n h =
+      subst (λ z. Passes n z s ts new rest) (same_level (level g n) (level f n) (and_right (even g n) _ (and_right (even f n) _ h))) (passes d n (and_left (even g n) _ (and_right (even f n) _ h)))
+  passes (Derives.done _) n h = record { at = λ k. refl }
+  passes {f = loop p f} {s = s} {ts = ts} (Derives.again {mid = mid} {later = later} _ d e _) n h = joined (subst (λ z. Passes n z s ts mid later) (same_level (level f n) n (and_right (even f n) _ h)) (passes d n (and_left (even f n) _ h))) (passes e n h)
+
 pub passes_over : {f : Form} {s new : Scopes} {ts rest : List Terminal} {xs : List Tree} → Derives parsed f s ts xs new rest → (n : ℕ) → even f n ≡ true → Passes n (level f n) s ts new rest
-unfolding even level
-passes_over {f = word ks a} (Derives.a_word {s = s} {t = t} {ts = ts} e) n h = elim (or_cases (holds a) _ (and_right (fits ks a) _ h)) [
-  | inl o ↦ held_word ks a n s t ts o (and_left (fits ks a) _ h) e
-  | inr w ↦ word_case (holds a) refl w
-]
-  where
-    word_case : (b : Bool) → holds a ≡ b → (within tables ks opening || ((within tables ks closing && is_some n) || apart tables ks brackets)) ≡ true → Passes n (level (word ks a) n) s (t ∷ ts) (after a s t) ts
-    word_case true q w = held_word ks a n s t ts q (and_left (fits ks a) _ h) e
-    word_case false q w = plain_word ks a n s t ts q w e
-passes_over {f = rule m} {s = s} {ts = ts} {rest = rest} (Derives.a_rule {new = mid} d) n h =
-    from_inside n s mid _ ts rest (subst (λ z. Passes 0 z s ts mid rest) (levels m) (passes_over d 0 (evens m))) (closed_keeps m mid)
-passes_over Derives.nothing n h = record { at = λ k. refl }
-passes_over {f = f then g} (Derives.both d e _) n h = joined (passes_over d n (and_left (even f n) _ h)) (passes_over e (level f n) (and_right (even f n) _ h))
-passes_over {f = f or g} (Derives.left d) n h = passes_over d n (and_left (even f n) _ h)
-passes_over {f = f or g} {s = s} {new = new} {ts = ts} {rest = rest} (Derives.right d) n h =
-    subst (λ z. Passes n z s ts new rest) (same_level (level g n) (level f n) (and_right (even g n) _ (and_right (even f n) _ h))) (passes_over d n (and_left (even g n) _ (and_right (even f n) _ h)))
-passes_over Derives.skip n h = record { at = λ k. refl }
-passes_over {f = maybe f} {s = s} {new = new} {ts = ts} {rest = rest} (Derives.take d) n h = subst (λ z. Passes n z s ts new rest) (same_level (level f n) n (and_right (even f n) _ h)) (passes_over d n (and_left (even f n) _ h))
-passes_over Derives.stop n h = record { at = λ k. refl }
-passes_over {f = many f} {s = s} {ts = ts} (Derives.turn {mid = mid} {later = later} d e _) n h = joined (subst (λ z. Passes n z s ts mid later) (same_level (level f n) n (and_right (even f n) _ h)) (passes_over d n (and_left (even f n) _ h))) (passes_over e n h)
-passes_over {f = when p f g} (Derives.chosen _ d) n h = passes_over d n (and_left (even f n) _ h)
-passes_over {f = when p f g} {s = s} {new = new} {ts = ts} {rest = rest} (Derives.other _ d) n h =
-    subst (λ z. Passes n z s ts new rest) (same_level (level g n) (level f n) (and_right (even g n) _ (and_right (even f n) _ h))) (passes_over d n (and_left (even g n) _ (and_right (even f n) _ h)))
-passes_over (Derives.done _) n h = record { at = λ k. refl }
-passes_over {f = loop p f} {s = s} {ts = ts} (Derives.again {mid = mid} {later = later} _ d e _) n h = joined (subst (λ z. Passes n z s ts mid later) (same_level (level f n) n (and_right (even f n) _ h)) (passes_over d n (and_left (even f n) _ h))) (passes_over e n h)
+passes_over d n h = passes table evens levels d n h

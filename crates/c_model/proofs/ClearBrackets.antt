@@ -13,9 +13,7 @@ use Rattle.c_model.specs.GrammarForm.{Form, word, rule, empty, ◌then◌, ◌or
 use Rattle.c_model.specs.NameScopes.{Scopes, kind, after, close, leave, leave_parameters, bracket_kind, is_closing, is_given, own_kind, closes, is_type}
 use Rattle.c_model.specs.Derivation.{Language, Derives}
 use Rattle.c_model.specs.DecidedTable.{within}
-use Rattle.c_model.specs.OpenTable.{opened, open_table}
 use Rattle.c_model.specs.ParserTable.{table}
-use Rattle.c_model.specs.Grammar.{grammar}
 use Rattle.c_model.specs.ParserTests.{parsed}
 use Rattle.c_model.specs.ParserSets.{tables}
 use Rattle.c_model.proofs.KindSets.{and_left, and_right, or_cases, not_true, within_mem, clash}
@@ -109,68 +107,6 @@ pub at_closing : (s : Scopes) (t : Terminal) → mem (kind s t) closing ≡ true
 at_closing s t h = unheld s.brackets t.kind (no_name (t.kind == 111) (is_type s.entries t.name) s.reading.typed (bracket_kind s.brackets t.kind) h)
 
 -- none is held open behind a nonterminal but the balanced tokens, where none was before it
-clear_rule : (n : Rule) → is_balanced n ≡ false → clear (open_table n) true ≡ true
-unfolding clear holds is_balanced within mem open_table table grammar
-clear_rule r.Balanced h = absurd (cc)
-clear_rule r.Unit h = refl
-clear_rule r.External h = refl
-clear_rule r.Function h = refl
-clear_rule r.Declaration h = refl
-clear_rule r.Sassert h = refl
-clear_rule r.Attrs h = refl
-clear_rule r.Attr h = refl
-clear_rule r.Specs h = refl
-clear_rule r.Spec h = refl
-clear_rule r.Storage h = refl
-clear_rule r.Typespec h = refl
-clear_rule r.Qual h = refl
-clear_rule r.Squals h = refl
-clear_rule r.Struct h = refl
-clear_rule r.Members h = refl
-clear_rule r.Member h = refl
-clear_rule r.Enum h = refl
-clear_rule r.Enumr h = refl
-clear_rule r.Declarator h = refl
-clear_rule r.Direct h = refl
-clear_rule r.Suffix h = refl
-clear_rule r.Params h = refl
-clear_rule r.Param h = refl
-clear_rule r.Typename h = refl
-clear_rule r.Abstract h = refl
-clear_rule r.Adirect h = refl
-clear_rule r.Initdecl h = refl
-clear_rule r.Init h = refl
-clear_rule r.Braces h = refl
-clear_rule r.Item h = refl
-clear_rule r.Desig h = refl
-clear_rule r.Block h = refl
-clear_rule r.Label h = refl
-clear_rule r.Statement h = refl
-clear_rule r.Expr h = refl
-clear_rule r.Assign h = refl
-clear_rule r.Cond h = refl
-clear_rule r.Oror h = refl
-clear_rule r.Andand h = refl
-clear_rule r.Bor h = refl
-clear_rule r.Bxor h = refl
-clear_rule r.Band h = refl
-clear_rule r.Equal h = refl
-clear_rule r.Rel h = refl
-clear_rule r.Shift h = refl
-clear_rule r.Sum h = refl
-clear_rule r.Product h = refl
-clear_rule r.Cast h = refl
-clear_rule r.Unary h = refl
-clear_rule r.Postfix h = refl
-clear_rule r.Primary h = refl
-clear_rule r.Literal h = refl
-clear_rule r.Declared h = refl
-clear_rule r.ParamSpecs h = refl
-clear_rule r.Body h = refl
-clear_rule r.Typeof h = refl
-clear_rule r.If h = refl
-clear_rule r.For h = refl
-
 parsed_rule : (n : Rule) → is_balanced n ≡ false → clear (table n) true ≡ true
 unfolding clear holds is_balanced within mem table
 parsed_rule r.Balanced h = absurd (cc)
@@ -234,7 +170,7 @@ parsed_rule r.If h = refl
 parsed_rule r.For h = refl
 
 -- the language of a table
-abbrev over : (Rule → Form) → Language
+abbrev pub over : (Rule → Form) → Language
 over body = record parsed { body = body }
 
 module _ (body : Rule → Form) (ok : (n : Rule) → is_balanced n ≡ false → clear (body n) true ≡ true) where
@@ -261,9 +197,6 @@ module _ (body : Rule → Form) (ok : (n : Rule) → is_balanced n ≡ false →
   stays {f = loop p f} (Derives.done _) b c h = c (and_left b (clear f b) h)
   stays {f = loop p f} (Derives.again _ d e _) b c h = stays e b (λ k. stays d b c (and_right b (clear f b) h)) h
 
-pub stays_clear : {f : Form} {s new : Scopes} {ts rest : List Terminal} {xs : List Tree} → Derives opened f s ts xs new rest → (b : Bool) → (b ≡ true → s.brackets ≡ []) → clear f b ≡ true → new.brackets ≡ []
-stays_clear d b c h = stays open_table clear_rule d b c h
-
--- likewise by the parser's table
+-- by the parser's table
 pub parsed_clear : {f : Form} {s new : Scopes} {ts rest : List Terminal} {xs : List Tree} → Derives parsed f s ts xs new rest → (b : Bool) → (b ≡ true → s.brackets ≡ []) → clear f b ≡ true → new.brackets ≡ []
 parsed_clear d b c h = stays table parsed_rule d b c h

@@ -17,6 +17,7 @@ use Rattle.c_model.specs.Derivation.{Derives}
 use Rattle.c_model.specs.ParserTable.{table}
 use Rattle.c_model.specs.ParserTests.{parsed}
 use Rattle.c_model.proofs.KindSets.{and_left, and_right, or_cases, clash}
+use Rattle.c_model.proofs.ClearBrackets.{over}
 
 -- the act opens a frame, or leaves one
 unfoldable pub opens : Act → Bool
@@ -101,7 +102,7 @@ nests (loop p f) o g = same (is_open f o) o && (nests f o g && (same (is_grown f
 unfoldable pub nested : Rule → Form → Bool
 nested n f = nests f false false && (same (is_open f false) (leaves_last n) && (declares n || (leaves_last n || not (is_grown f false))))
 
-every : (n : Rule) → nested n (table n) ≡ true
+pub every : (n : Rule) → nested n (table n) ≡ true
 unfolding nested nests is_open is_grown opens leaves declares leaves_last same table
 every r.Unit = refl
 every r.External = refl
@@ -163,7 +164,7 @@ every r.Typeof = refl
 every r.If = refl
 every r.For = refl
 
-same_bool : (a b : Bool) → same a b ≡ true → a ≡ b
+pub same_bool : (a b : Bool) → same a b ≡ true → a ≡ b
 unfolding same
 same_bool true true h = refl
 same_bool false false h = refl
@@ -179,11 +180,11 @@ pub record IsKept (o g : Bool) (s new : Scopes) : Type 0 where
   pub entries : new.entries ≡ s.entries ++ more
   pub ungrown : g ≡ false → more ≡ []
 
-taken : (xs ys : List Entry) → take (length xs) (xs ++ ys) ≡ xs
+pub taken : (xs ys : List Entry) → take (length xs) (xs ++ ys) ≡ xs
 taken [] ys = refl
 taken (x ∷ xs) ys = ap (λ z. x ∷ z) (taken xs ys)
 
-nil : (xs : List Entry) → xs ++ [] ≡ xs
+pub nil : (xs : List Entry) → xs ++ [] ≡ xs
 nil [] = refl
 nil (x ∷ xs) = ap (λ z. x ∷ z) (nil xs)
 
@@ -305,7 +306,7 @@ at_word ks a o g base s t false false p q h k =
 grown_to : (o g g' : Bool) (base s : Scopes) → (g' ≡ false → g ≡ false) → IsKept o g base s → IsKept o g' base s
 grown_to o g g' base s h k = record { frame = k.frame; more = k.more; frames = k.frames; counted = k.counted; entries = k.entries; ungrown = λ e. k.ungrown (h e) }
 
-at_start : (s : Scopes) → IsKept false false s s
+pub at_start : (s : Scopes) → IsKept false false s s
 at_start s = record { frame = record { count = length s.entries; reading = s.reading }; more = []; frames = refl; counted = refl; entries = sym (nil s.entries); ungrown = λ e. refl }
 
 nothing_grown : (a b : Bool) → (a || b) ≡ false → (a ≡ false) × (b ≡ false)
@@ -377,52 +378,57 @@ or_true true b h = refl
 or_true false b h = absurd (cc)
 
 -- once names are declared, more may be
-steady : (f : Form) (o : Bool) → same (is_open f o) o ≡ true → (nests f o true && is_grown f true) ≡ true → (same (is_open f o) o && (nests f o true && (same (is_grown f true) true || (is_grown f true && (nests f o true && is_grown f true))))) ≡ true
+pub steady : (f : Form) (o : Bool) → same (is_open f o) o ≡ true → (nests f o true && is_grown f true) ≡ true → (same (is_open f o) o && (nests f o true && (same (is_grown f true) true || (is_grown f true && (nests f o true && is_grown f true))))) ≡ true
 steady f o q v = both_true _ _ q (both_true _ _ (and_left _ (is_grown f true) v) (or_true _ _ (same_true (is_grown f true) (and_right (nests f o true) _ v))))
 
+module _ (body : Rule → Form) (ok : (n : Rule) → nested n (body n) ≡ true) where
+  pub kept_over : {f : Form} {s new : Scopes} {ts rest : List Terminal} {xs : List Tree} → Derives (over body) f s ts xs new rest → (o g : Bool) (base : Scopes) → nests f o g ≡ true → IsKept o g base s → IsKept (is_open f o) (is_grown f g) base new
+  unfolding nests is_open is_grown nested
+  kept_over {f = word ks a} (Derives.a_word {s = s} {t = t} e) o g base h k = at_word ks a o g base s t (opens a) (leaves a) refl refl h k
+  kept_over {f = rule n} {s = s} (Derives.a_rule {new = mid} d) o g base h k =
+      let w = ok n in
+      let v = and_right (nests (body n) false false) _ w in
+      let i = kept_over d false false s (and_left _ (same (is_open (body n) false) (leaves_last n) && (declares n || (leaves_last n || not (is_grown (body n) false)))) w) (at_start s) in
+      let q = same_bool (is_open (body n) false) (leaves_last n) (and_left _ (declares n || (leaves_last n || not (is_grown (body n) false))) v) in
+      joined o g (declares n) base s (close n mid) k (ended n (is_grown (body n) false) s mid (and_right (same (is_open (body n) false) (leaves_last n)) _ v) (subst (λ z. IsKept z (is_grown (body n) false) s mid) q i))
+  kept_over Derives.nothing o g base h k = k
+  kept_over {f = f then x} (Derives.both d e _) o g base h k = kept_over e (is_open f o) (is_grown f g) base (and_right (nests f o g) _ h) (kept_over d o g base (and_left _ (nests x (is_open f o) (is_grown f g)) h) k)
+  kept_over {f = f or x} {new = new} (Derives.left d) o g base h k = grown_to (is_open f o) (is_grown f g) (is_grown f g || is_grown x g) base new (left_false (is_grown f g) (is_grown x g)) (kept_over d o g base (and_left _ (nests x o g && same (is_open x o) (is_open f o)) h) k)
+  kept_over {f = f or x} {new = new} (Derives.right d) o g base h k =
+      let v = and_right (nests f o g) _ h in
+      let i = kept_over d o g base (and_left _ (same (is_open x o) (is_open f o)) v) k in
+      grown_to (is_open f o) (is_grown x g) (is_grown f g || is_grown x g) base new (right_false (is_grown f g) (is_grown x g)) (subst (λ z. IsKept z (is_grown x g) base new) (same_bool _ _ (and_right (nests x o g) _ v)) i)
+  kept_over {f = maybe f} {s = s} Derives.skip o g base h k = grown_to o g (g || is_grown f g) base s (left_false g (is_grown f g)) k
+  kept_over {f = maybe f} {new = new} (Derives.take d) o g base h k =
+      let i = kept_over d o g base (and_left _ (same (is_open f o) o) h) k in
+      grown_to o (is_grown f g) (g || is_grown f g) base new (right_false g (is_grown f g)) (subst (λ z. IsKept z (is_grown f g) base new) (same_bool _ _ (and_right (nests f o g) _ h)) i)
+  kept_over {f = many f} {s = s} Derives.stop o g base h k = grown_to o g (g || is_grown f g) base s (left_false g (is_grown f g)) k
+  kept_over {f = many f} {new = new} (Derives.turn {mid = mid} d e _) o g base h k =
+      let i = kept_over d o g base (and_left _ _ (and_right (same (is_open f o) o) _ h)) k in
+      let j : IsKept o (is_grown f g) base mid = subst (λ z. IsKept z (is_grown f g) base mid) (same_bool _ _ (and_left _ _ h)) i in
+      let w = and_right (nests f o g) _ (and_right (same (is_open f o) o) _ h) in
+      elim (or_cases (same (is_grown f g) g) _ w) [
+        | inl q ↦ kept_over e o g base h (subst (λ z. IsKept o z base mid) (same_bool (is_grown f g) g q) j)
+        | inr v ↦ grown_to o _ (g || is_grown f g) base new (λ z. absurd (clash _ (and_left (is_grown f g) _ v) (right_false g (is_grown f g) z))) (kept_over e o true base (steady f o (and_left _ _ h) (and_right (is_grown f g) _ v)) (grown_to o (is_grown f g) true base mid (λ z. absurd (cc)) j))
+      ]
+  kept_over {f = when p f x} {new = new} (Derives.chosen _ d) o g base h k = grown_to (is_open f o) (is_grown f g) (is_grown f g || is_grown x g) base new (left_false (is_grown f g) (is_grown x g)) (kept_over d o g base (and_left _ (nests x o g && same (is_open x o) (is_open f o)) h) k)
+  kept_over {f = when p f x} {new = new} (Derives.other _ d) o g base h k =
+      let v = and_right (nests f o g) _ h in
+      let i = kept_over d o g base (and_left _ (same (is_open x o) (is_open f o)) v) k in
+      grown_to (is_open f o) (is_grown x g) (is_grown f g || is_grown x g) base new (right_false (is_grown f g) (is_grown x g)) (subst (λ z. IsKept z (is_grown x g) base new) (same_bool _ _ (and_right (nests x o g) _ v)) i)
+  kept_over {f = loop p f} {s = s} (Derives.done _) o g base h k = grown_to o g (g || is_grown f g) base s (left_false g (is_grown f g)) k
+  kept_over {f = loop p f} {new = new} (Derives.again {mid = mid} _ d e _) o g base h k =
+      let i = kept_over d o g base (and_left _ _ (and_right (same (is_open f o) o) _ h)) k in
+      let j : IsKept o (is_grown f g) base mid = subst (λ z. IsKept z (is_grown f g) base mid) (same_bool _ _ (and_left _ _ h)) i in
+      let w = and_right (nests f o g) _ (and_right (same (is_open f o) o) _ h) in
+      elim (or_cases (same (is_grown f g) g) _ w) [
+        | inl q ↦ kept_over e o g base h (subst (λ z. IsKept o z base mid) (same_bool (is_grown f g) g q) j)
+        | inr v ↦ grown_to o _ (g || is_grown f g) base new (λ z. absurd (clash _ (and_left (is_grown f g) _ v) (right_false g (is_grown f g) z))) (kept_over e o true base (steady f o (and_left _ _ h) (and_right (is_grown f g) _ v)) (grown_to o (is_grown f g) true base mid (λ z. absurd (cc)) j))
+      ]
+
+-- likewise by the parser's table
 pub kept : {f : Form} {s new : Scopes} {ts rest : List Terminal} {xs : List Tree} → Derives parsed f s ts xs new rest → (o g : Bool) (base : Scopes) → nests f o g ≡ true → IsKept o g base s → IsKept (is_open f o) (is_grown f g) base new
-unfolding nests is_open is_grown nested
-kept {f = word ks a} (Derives.a_word {s = s} {t = t} e) o g base h k = at_word ks a o g base s t (opens a) (leaves a) refl refl h k
-kept {f = rule n} {s = s} (Derives.a_rule {new = mid} d) o g base h k =
-    let w = every n in
-    let v = and_right (nests (table n) false false) _ w in
-    let i = kept d false false s (and_left _ (same (is_open (table n) false) (leaves_last n) && (declares n || (leaves_last n || not (is_grown (table n) false)))) w) (at_start s) in
-    let q = same_bool (is_open (table n) false) (leaves_last n) (and_left _ (declares n || (leaves_last n || not (is_grown (table n) false))) v) in
-    joined o g (declares n) base s (close n mid) k (ended n (is_grown (table n) false) s mid (and_right (same (is_open (table n) false) (leaves_last n)) _ v) (subst (λ z. IsKept z (is_grown (table n) false) s mid) q i))
-kept Derives.nothing o g base h k = k
-kept {f = f then x} (Derives.both d e _) o g base h k = kept e (is_open f o) (is_grown f g) base (and_right (nests f o g) _ h) (kept d o g base (and_left _ (nests x (is_open f o) (is_grown f g)) h) k)
-kept {f = f or x} {new = new} (Derives.left d) o g base h k = grown_to (is_open f o) (is_grown f g) (is_grown f g || is_grown x g) base new (left_false (is_grown f g) (is_grown x g)) (kept d o g base (and_left _ (nests x o g && same (is_open x o) (is_open f o)) h) k)
-kept {f = f or x} {new = new} (Derives.right d) o g base h k =
-    let v = and_right (nests f o g) _ h in
-    let i = kept d o g base (and_left _ (same (is_open x o) (is_open f o)) v) k in
-    grown_to (is_open f o) (is_grown x g) (is_grown f g || is_grown x g) base new (right_false (is_grown f g) (is_grown x g)) (subst (λ z. IsKept z (is_grown x g) base new) (same_bool _ _ (and_right (nests x o g) _ v)) i)
-kept {f = maybe f} {s = s} Derives.skip o g base h k = grown_to o g (g || is_grown f g) base s (left_false g (is_grown f g)) k
-kept {f = maybe f} {new = new} (Derives.take d) o g base h k =
-    let i = kept d o g base (and_left _ (same (is_open f o) o) h) k in
-    grown_to o (is_grown f g) (g || is_grown f g) base new (right_false g (is_grown f g)) (subst (λ z. IsKept z (is_grown f g) base new) (same_bool _ _ (and_right (nests f o g) _ h)) i)
-kept {f = many f} {s = s} Derives.stop o g base h k = grown_to o g (g || is_grown f g) base s (left_false g (is_grown f g)) k
-kept {f = many f} {new = new} (Derives.turn {mid = mid} d e _) o g base h k =
-    let i = kept d o g base (and_left _ _ (and_right (same (is_open f o) o) _ h)) k in
-    let j : IsKept o (is_grown f g) base mid = subst (λ z. IsKept z (is_grown f g) base mid) (same_bool _ _ (and_left _ _ h)) i in
-    let w = and_right (nests f o g) _ (and_right (same (is_open f o) o) _ h) in
-    elim (or_cases (same (is_grown f g) g) _ w) [
-      | inl q ↦ kept e o g base h (subst (λ z. IsKept o z base mid) (same_bool (is_grown f g) g q) j)
-      | inr v ↦ grown_to o _ (g || is_grown f g) base new (λ z. absurd (clash _ (and_left (is_grown f g) _ v) (right_false g (is_grown f g) z))) (kept e o true base (steady f o (and_left _ _ h) (and_right (is_grown f g) _ v)) (grown_to o (is_grown f g) true base mid (λ z. absurd (cc)) j))
-    ]
-kept {f = when p f x} {new = new} (Derives.chosen _ d) o g base h k = grown_to (is_open f o) (is_grown f g) (is_grown f g || is_grown x g) base new (left_false (is_grown f g) (is_grown x g)) (kept d o g base (and_left _ (nests x o g && same (is_open x o) (is_open f o)) h) k)
-kept {f = when p f x} {new = new} (Derives.other _ d) o g base h k =
-    let v = and_right (nests f o g) _ h in
-    let i = kept d o g base (and_left _ (same (is_open x o) (is_open f o)) v) k in
-    grown_to (is_open f o) (is_grown x g) (is_grown f g || is_grown x g) base new (right_false (is_grown f g) (is_grown x g)) (subst (λ z. IsKept z (is_grown x g) base new) (same_bool _ _ (and_right (nests x o g) _ v)) i)
-kept {f = loop p f} {s = s} (Derives.done _) o g base h k = grown_to o g (g || is_grown f g) base s (left_false g (is_grown f g)) k
-kept {f = loop p f} {new = new} (Derives.again {mid = mid} _ d e _) o g base h k =
-    let i = kept d o g base (and_left _ _ (and_right (same (is_open f o) o) _ h)) k in
-    let j : IsKept o (is_grown f g) base mid = subst (λ z. IsKept z (is_grown f g) base mid) (same_bool _ _ (and_left _ _ h)) i in
-    let w = and_right (nests f o g) _ (and_right (same (is_open f o) o) _ h) in
-    elim (or_cases (same (is_grown f g) g) _ w) [
-      | inl q ↦ kept e o g base h (subst (λ z. IsKept o z base mid) (same_bool (is_grown f g) g q) j)
-      | inr v ↦ grown_to o _ (g || is_grown f g) base new (λ z. absurd (clash _ (and_left (is_grown f g) _ v) (right_false g (is_grown f g) z))) (kept e o true base (steady f o (and_left _ _ h) (and_right (is_grown f g) _ v)) (grown_to o (is_grown f g) true base mid (λ z. absurd (cc)) j))
-    ]
+kept d o g base h k = kept_over table every d o g base h k
 
 -- a nonterminal that declares no name leaves the names as they were
 pub same_entries : (n : Rule) {s new : Scopes} {ts rest : List Terminal} {xs : List Tree} → declares n ≡ false → Derives parsed (rule n) s ts xs new rest → new.entries ≡ s.entries

@@ -4,23 +4,20 @@ use Rattle.c_model.specs.declared.grammar.Terminal.{Terminal}
 use Rattle.c_model.specs.declared.grammar.Tree.{Tree}
 use Rattle.c_model.specs.GrammarForm.{mem}
 use Rattle.c_model.specs.NameScopes.{Scopes, start}
-use Rattle.c_model.specs.Derivation.{Derives}
 use Rattle.c_model.specs.FaultPlace.{FaultsAt}
+use Rattle.c_model.specs.Preferences.{IsPreferred}
 use Rattle.c_model.specs.DecidedTable.{decided, within}
 use Rattle.c_model.specs.DepthPlace.{Mark, PassesLimit, AreShallow, IsFirstDeep, marks, nothing_read}
 use Rattle.c_model.specs.LeftWeights.{IsWalkable, heaviest, rank}
 use Rattle.c_model.specs.ParserWalk.{ahead}
 use Rattle.c_model.specs.ParserSets.{tables, follows}
 use Rattle.c_model.specs.ParserTests.{parsed}
-use Rattle.c_model.specs.OpenTable.{opened}
+use Rattle.c_model.specs.SyntaxTree.{c_language}
 use Rattle.c_model.specs.UnitSyntax.{unit, IsUnit, IsFault, IsTooDeep, Walk, stuck, ended, walked, in_unit, before_fault}
 use Rattle.c_model.specs.OneAnswer.{ExcludeEachOther}
-use Rattle.c_model.proofs.DecidedGrammar.{refuted}
-use Rattle.c_model.proofs.ParserDecided.{quiet, checked}
-use Rattle.c_model.proofs.TotalWalk.{Outcome, read, failed, ends}
 use Rattle.c_model.proofs.AlikeWalks.{alike, alike_fronts, never}
-use Rattle.c_model.proofs.OneMarking.{one_marking}
-use Rattle.c_model.proofs.RegainUnit.{unit_back}
+use Rattle.c_model.proofs.ChoiceOrder.{one}
+use Rattle.c_model.proofs.ChoiceMarks.{one_marks}
 
 pub before_end : decided tables unit (0 ∷ []) ≡ true
 unfolding decided within follows mem
@@ -58,13 +55,9 @@ not_both ms k a b = some_deep ms b.before b.later b.mark b.split b.deep a
 
 -- ---- walks
 
--- all derivations of a unit make the same marks
-pub same_marks : {ts : List Terminal} {xs ys : List Tree} {s s' : Scopes} (d : Derives parsed unit start ts xs s []) (e : Derives parsed unit start ts ys s' []) → marks parsed d ≡ marks parsed e
-same_marks {ts = ts} {s = s} {s' = s'} d e = by (ends unit start ts unit_walkable)
-  where
-    by : Outcome unit start ts → marks parsed d ≡ marks parsed e
-    by (read p) = ap (λ z. z.marks) (one_marking tables parsed quiet checked p (0 ∷ []) before_end d (at_end s) false 0 nothing_read ∙ sym (one_marking tables parsed quiet checked p (0 ∷ []) before_end e (at_end s') false 0 nothing_read))
-    by (failed p) = absurd (refuted tables parsed quiet checked p (0 ∷ []) before_end d (at_end s))
+-- all preferred derivations of a unit make the same marks
+same_marks : {ts : List Terminal} {xs ys : List Tree} (p : IsPreferred c_language unit start ts xs) (q : IsPreferred c_language unit start ts ys) → marks c_language p.derived ≡ marks c_language q.derived
+same_marks {ts = ts} {xs = xs} {ys = ys} p q = one_marks c_language unit start ts xs ys p q
 
 same_walk : {ts rest rest' : List Terminal} (v : Walk ts rest) (w : Walk ts rest') → walked v ≡ walked w
 same_walk (stuck p) (stuck q) = ap (λ z. z.marks) ((alike_fronts tables parsed p q).grown false 0 nothing_read)
@@ -79,7 +72,7 @@ drop_length zero ts h = omega arith
 drop_length (suc k) [] h = absurd (omega arith)
 drop_length (suc k) (t ∷ ts) h = let l : k ≤ length ts = omega arith in let q = drop_length k ts l in omega (arith, q)
 
-one_place : (ts : List Terminal) (j k : ℕ) → FaultsAt opened unit start ts j → FaultsAt opened unit start ts k → j ≡ k
+one_place : (ts : List Terminal) (j k : ℕ) → FaultsAt c_language unit start ts j → FaultsAt c_language unit start ts k → j ≡ k
 one_place ts j k a b =
     let p = a.no_more _ b.begun in
     let q = b.no_more _ a.begun in
@@ -87,29 +80,29 @@ one_place ts j k a b =
     let m = drop_length k ts b.within in
     omega (arith, p, q, l, m)
 
-no_unit : {ts : List Terminal} {j : ℕ} {xs : List Tree} {s : Scopes} → FaultsAt opened unit start ts j → Derives parsed unit start ts xs s [] → ⊥
-no_unit {ts = ts} {xs = xs} {s = s} f d = f.not_whole xs s (unit_back ts xs s [] d)
+no_unit : {ts : List Terminal} {j : ℕ} {xs : List Tree} → FaultsAt c_language unit start ts j → IsPreferred c_language unit start ts xs → ⊥
+no_unit {xs = xs} f p = f.not_whole xs p.scopes p.derived
 
 depth_twice : (ts : List Terminal) (j k : ℕ) → IsTooDeep ts j → IsTooDeep ts k → j ≡ k
-depth_twice ts j k (in_unit d a) (in_unit e b) = one_first (marks parsed d) j k a (subst (λ z. IsFirstDeep z k) (same_marks e d) b)
-depth_twice ts j k (in_unit d a) (before_fault w f l b) = absurd (no_unit f d)
-depth_twice ts j k (before_fault v f l a) (in_unit e b) = absurd (no_unit f e)
+depth_twice ts j k (in_unit p a) (in_unit q b) = one_first (marks c_language p.derived) j k a (subst (λ z. IsFirstDeep z k) (same_marks q p) b)
+depth_twice ts j k (in_unit p a) (before_fault w f l b) = absurd (no_unit f p)
+depth_twice ts j k (before_fault v f l a) (in_unit q b) = absurd (no_unit f q)
 depth_twice ts j k (before_fault v f l a) (before_fault w g m b) = one_first (walked v) j k a (subst (λ z. IsFirstDeep z k) (same_walk w v) b)
 
 unit_not_deep : (ts : List Terminal) (xs : List Tree) (k : ℕ) → IsUnit ts xs → IsTooDeep ts k → ⊥
-unit_not_deep ts xs k u (in_unit e b) = not_both (marks parsed u.alone.derived) k (subst AreShallow u.parts u.shallow) (subst (λ z. IsFirstDeep z k) (same_marks e u.alone.derived) b)
-unit_not_deep ts xs k u (before_fault w f l b) = no_unit f u.alone.derived
+unit_not_deep ts xs k u (in_unit p b) = not_both (marks c_language u.preferred.derived) k u.shallow (subst (λ z. IsFirstDeep z k) (same_marks p u.preferred) b)
+unit_not_deep ts xs k u (before_fault w f l b) = no_unit f u.preferred
 
 fault_not_deep : (ts : List Terminal) (j k : ℕ) → IsFault ts j → IsTooDeep ts k → ⊥
-fault_not_deep ts j k f (in_unit e b) = no_unit f.first e
+fault_not_deep ts j k f (in_unit p b) = no_unit f.first p
 fault_not_deep ts j k f (before_fault w g l b) = not_both (walked f.walk) k f.shallow (subst (λ z. IsFirstDeep z k) (same_walk w f.walk) b)
 
 pub exclude : (ts : List Terminal) → ExcludeEachOther ts
 exclude ts = record {
-  one_unit = λ xs ys a b. sym (a.alone.alone ys b.alone.scopes b.alone.derived);
+  one_unit = λ xs ys a b. one c_language unit start ts xs ys a.preferred b.preferred;
   one_fault = λ j k a b. one_place ts j k a.first b.first;
   one_depth = λ j k a b. depth_twice ts j k a b;
-  unit_or_fault = λ xs k a b. no_unit b.first a.alone.derived;
+  unit_or_fault = λ xs k a b. no_unit b.first a.preferred;
   unit_or_depth = λ xs k a b. unit_not_deep ts xs k a b;
   fault_or_depth = λ j k a b. fault_not_deep ts j k a b;
 }

@@ -1,10 +1,9 @@
--- What may follow each form of the open table, and where no bracket is held open before a nonterminal.
+-- What may follow each form of the grammar, and where no bracket is held open before a nonterminal.
 use Rattle.std.proofs.Common.{◌≡◌, ℕ, Bool, true, not, ◌&&◌, ◌||◌, List, ◌++◌, refl}
 use Rattle.c_model.specs.declared.grammar.Rule.{Rule}
 use Rattle.c_model.specs.declared.grammar.Rule.TheVariants as r
 use Rattle.c_model.specs.GrammarForm.{Form, word, rule, empty, ◌then◌, ◌or◌, maybe, many, when, loop, mem}
 use Rattle.c_model.specs.DecidedTable.{within, first, nullable, leads}
-use Rattle.c_model.specs.OpenTable.{open_table}
 use Rattle.c_model.specs.ParserTable.{table}
 use Rattle.c_model.specs.Grammar.{grammar}
 use Rattle.c_model.specs.ParserSets.{tables, firsts, follows, hollow}
@@ -22,8 +21,8 @@ flows (many f) F b = (not b || clear f b) && flows f (first tables f ++ F) b
 flows (when p f g) F b = flows f F b && flows g F b
 flows (loop p f) F b = (not b || clear f b) && flows f (first tables f ++ F) b
 
-pub flow : (n : Rule) → flows (open_table n) (follows n) (not (is_balanced n)) ≡ true
-unfolding flows clear holds is_balanced within mem first nullable leads open_table table grammar firsts follows hollow
+pub flow : (n : Rule) → flows (grammar n) (follows n) (not (is_balanced n)) ≡ true
+unfolding flows clear holds is_balanced within mem first nullable leads table grammar firsts follows hollow
 flow r.Unit = refl
 flow r.External = refl
 flow r.Function = refl

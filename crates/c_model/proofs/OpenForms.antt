@@ -1,4 +1,5 @@
--- The open table is the parser's, but for the tests that stay: in each other place either alternative may be taken.
+-- The grammar is the parser's table, but for the tests that the grammar doesn't have: in their places either
+-- alternative may be taken.
 use Rattle.std.proofs.Common.{◌≡◌, ℕ, Bool, true, false, not, ◌&&◌, ◌||◌, List, ◌++◌, refl, sym, append-nil}
 use Rattle.std.specs.Prelude.{if◌then◌else◌}
 use Rattle.c_model.specs.declared.grammar.Rule.{Rule}
@@ -9,7 +10,6 @@ use Rattle.c_model.specs.GrammarForm.{Form, word, rule, empty, ◌then◌, ◌or
 use Rattle.c_model.specs.DecidedTable.{nullable, first, leads}
 use Rattle.c_model.specs.Untested.{either}
 use Rattle.c_model.specs.Grammar.{grammar}
-use Rattle.c_model.specs.OpenTable.{open_table}
 use Rattle.c_model.specs.ParserTable.{table}
 use Rattle.c_model.specs.ParserSets.{tables}
 use Rattle.c_model.proofs.ClearBrackets.{clear}
@@ -22,8 +22,6 @@ unfoldable pub stays : Test → Bool
 stays test.HasParameters = true
 stays test.ElseAhead = true
 stays test.TypeAhead = true
-stays test.BraceAhead = true
-stays test.EnumeratorsAhead = true
 stays _ = false
 
 unfoldable pub opens_when : Bool → Test → Form → Form → Form
@@ -46,8 +44,8 @@ opens (many f) = many (opens f)
 opens (when p f g) = opens_when (stays p) p (opens f) (opens g)
 opens (loop p f) = opens_loop (stays p) p (opens f)
 
-pub open_form : (n : Rule) → opens (table n) ≡ open_table n
-unfolding opens opens_when opens_loop either stays table open_table grammar
+pub open_form : (n : Rule) → opens (table n) ≡ grammar n
+unfolding opens opens_when opens_loop either stays table grammar
 open_form r.Unit = refl
 open_form r.External = refl
 open_form r.Function = refl
@@ -143,46 +141,6 @@ nullable_either : (f g : Form) → IsEither f g → nullable tables (either f g)
 unfolding nullable
 nullable_either f g (IsEither.part q e) = rw (e, q) (sym (or_true (nullable tables f)))
 nullable_either f g (IsEither.choice e) = rw e refl
-
-flows_either : (f g : Form) (F : List ℕ) (b : Bool) → IsEither f g → flows (either f g) F b ≡ (flows f F b && flows g F b)
-unfolding flows
-flows_either f g F b (IsEither.part q e) = rw (e, q) (sym (and_true (flows f F b)))
-flows_either f g F b (IsEither.choice e) = rw e refl
-
-pub flows_when : (b : Bool) (p : Test) (f g : Form) (F : List ℕ) (c : Bool) → flows (opens_when b p f g) F c ≡ (flows f F c && flows g F c)
-unfolding flows opens_when
-flows_when true p f g F c = refl
-flows_when false p f g F c = flows_either f g F c (is_either f g)
-
-pub flows_loop : (b : Bool) (p : Test) (f : Form) (F : List ℕ) (c : Bool) → flows (opens_loop b p f) F c ≡ ((not c || clear f c) && flows f (first tables f ++ F) c)
-unfolding flows opens_loop
-flows_loop true p f F c = refl
-flows_loop false p f F c = refl
-
--- nor does a suffix end what it didn't
-suffixed_part : (f g : Form) (F : List ℕ) → IsEither f g → suffixed (either f g) F ≡ true → suffixed f F ≡ true
-suffixed_part f g F (IsEither.part q e) v = maybe_part f F (rw e at v)
-suffixed_part f g F (IsEither.choice e) v = or_first f g F (rw e at v)
-
-suffixed_rest : (f g : Form) (F : List ℕ) → IsEither f g → suffixed (either f g) F ≡ true → suffixed g F ≡ true
-unfolding suffixed
-suffixed_rest f g F (IsEither.part q e) v = rw q refl
-suffixed_rest f g F (IsEither.choice e) v = or_second f g F (rw e at v)
-
-pub suffixed_chosen : (b : Bool) (p : Test) (f g : Form) (F : List ℕ) → suffixed (opens_when b p f g) F ≡ true → suffixed f F ≡ true
-unfolding opens_when
-suffixed_chosen true p f g F v = when_first p f g F v
-suffixed_chosen false p f g F v = suffixed_part f g F (is_either f g) v
-
-pub suffixed_other : (b : Bool) (p : Test) (f g : Form) (F : List ℕ) → suffixed (opens_when b p f g) F ≡ true → suffixed g F ≡ true
-unfolding opens_when
-suffixed_other true p f g F v = when_second p f g F v
-suffixed_other false p f g F v = suffixed_rest f g F (is_either f g) v
-
-pub suffixed_turn : (b : Bool) (p : Test) (f : Form) (F : List ℕ) → suffixed (opens_loop b p f) F ≡ true → suffixed f (first tables f ++ F) ≡ true
-unfolding opens_loop
-suffixed_turn true p f F v = loop_turn p f F v
-suffixed_turn false p f F v = many_turn f F v
 
 first_when : (b : Bool) (p : Test) (f g : Form) → first tables (opens_when b p f g) ≡ first tables f ++ first tables g
 unfolding first opens_when

@@ -12,7 +12,6 @@ use Rattle.c_model.specs.Derivation.{Derives, Begins}
 use Rattle.c_model.specs.DecidedTable.{first, nullable, leads}
 use Rattle.c_model.specs.ParserWalk.{ahead}
 use Rattle.c_model.specs.Grammar.{grammar}
-use Rattle.c_model.specs.OpenTable.{open_table}
 use Rattle.c_model.specs.ParserTable.{table}
 use Rattle.c_model.specs.ParserSets.{tables, firsts, follows, hollow}
 use Rattle.c_model.specs.ParserTests.{parsed, sees_attribute}
@@ -77,13 +76,13 @@ suffixed (many f) F = (not (ends_open f) || is_one f && bracketless F) && suffix
 suffixed (when p f g) F = suffixed f F && suffixed g F
 suffixed (loop p f) F = not (ends_open f) && suffixed f (first tables f ++ F)
 
-pub suffix_form : (n : Rule) → suffixed (open_table n) (follows n) ≡ true
-unfolding suffixed ends_open is_one are_suffixes bracketless is_suffix mem first nullable leads open_table table grammar firsts follows hollow
+pub suffix_form : (n : Rule) → suffixed (grammar n) (follows n) ≡ true
+unfolding suffixed ends_open is_one are_suffixes bracketless is_suffix mem first nullable leads table grammar firsts follows hollow
 suffix_form r.Unit = refl
 suffix_form _ = refl
 
-pub closed_form : (n : Rule) → ends_open (open_table n) ≡ false
-unfolding ends_open is_suffix open_table table grammar
+pub closed_form : (n : Rule) → ends_open (grammar n) ≡ false
+unfolding ends_open is_suffix table grammar
 closed_form r.Unit = refl
 closed_form _ = refl
 
@@ -157,10 +156,10 @@ pub the_held : {f : Form} {s : Scopes} {ts rest : List Terminal} → ends_open f
 the_held n (IsBegun.held d) = d
 the_held {f = f} n (IsBegun.ended i d h) = absurd (clash (ends_open f) i n)
 
--- of one production: what its open form derives before what may follow, and begins, its nonterminal does
+-- of one production: what the grammar's form derives before what may follow, and begins, its nonterminal does
 pub record IsProduced (n : Rule) : Type 0 where
-  pub derived : (s mid : Scopes) (ts rest : List Terminal) (xs : List Tree) → Clear (not (is_balanced n)) s → Derives parsed (open_table n) s ts xs mid rest → mem (ahead tables parsed mid rest) (follows n) ≡ true → IsKept (rule n) s ts (parsed.close n mid) rest
-  pub begun : (s : Scopes) (ts rest : List Terminal) → Clear (not (is_balanced n)) s → Begins parsed (open_table n) s ts rest → IsBegun (rule n) s ts rest
+  pub derived : (s mid : Scopes) (ts rest : List Terminal) (xs : List Tree) → Clear (not (is_balanced n)) s → Derives parsed (grammar n) s ts xs mid rest → mem (ahead tables parsed mid rest) (follows n) ≡ true → IsKept (rule n) s ts (parsed.close n mid) rest
+  pub begun : (s : Scopes) (ts rest : List Terminal) → Clear (not (is_balanced n)) s → Begins parsed (grammar n) s ts rest → IsBegun (rule n) s ts rest
 
 pub produced : (n : Rule) → IsRegained n → IsProduced n
 produced n is = record {

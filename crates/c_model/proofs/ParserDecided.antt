@@ -77,7 +77,7 @@ checked r.If = refl
 checked r.For = refl
 
 -- in a set that has all three kinds of identifiers or none, an identifier may be of each kind
-either_name : (F : List ℕ) (typed declared typed' declared' : Bool) (name : Bool) (other : ℕ) → mem 111 F ≡ mem 112 F → mem 112 F ≡ mem 113 F
+pub either_name : (F : List ℕ) (typed declared typed' declared' : Bool) (name : Bool) (other : ℕ) → mem 111 F ≡ mem 112 F → mem 112 F ≡ mem 113 F
     → mem (if name then (if declared then (if typed then 113 else 112) else 111) else other) F ≡ true
     → mem (if name then (if declared' then (if typed' then 113 else 112) else 111) else other) F ≡ true
 either_name F t d t' d' false other p q h = h

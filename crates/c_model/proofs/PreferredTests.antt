@@ -1,4 +1,4 @@
--- Where a test that the open table leaves out fails, the alternative that is written first derives nothing.
+-- Where a test that the grammar leaves out fails, the alternative that is written first derives nothing.
 use Rattle.std.proofs.Common.{◌≡◌, Bool, true, false, not, ◌&&◌, List, [], ◌∷◌, refl, ap}
 use Rattle.c_model.specs.declared.grammar.Rule.{Rule}
 use Rattle.c_model.specs.declared.grammar.Rule.TheVariants as r
@@ -31,6 +31,7 @@ use Rattle.c_model.proofs.RegainCast.{by_what_follows, no_brace, unary_no_cast}
 use Rattle.c_model.proofs.RegainPrimary.{no_type}
 use Rattle.c_model.proofs.RegainFunction.{function_seen}
 use Rattle.c_model.proofs.OpenSuffixes.{is_suffix, ends_open}
+use Rattle.c_model.proofs.GrammarFits.{in_list}
 use Rattle.c_model.proofs.OpenForms.{opens, opens_when, opens_loop, stays}
 
 -- the scopes are those behind the specifiers of a parameter, where c says so
@@ -58,8 +59,8 @@ plain (many f) = plain f
 plain (when p f g) = stays p && (plain f && plain g)
 plain (loop p f) = stays p && plain f
 
--- each test that is left out of the form holds wherever its first alternative derives what comes; no bracket is held open
--- before the form where b says so
+-- each test that is left out of the form holds wherever its first alternative derives what comes; no bracket is held
+-- open before the form where b says so
 pub data IsTested : Form → Bool → Bool → Type 0 where
   plainly : {f : Form} {b c : Bool} → plain f ≡ true → IsTested f b c
   in_then : {f g : Form} {b c : Bool} → IsTested f b c → IsTested g (clear (opens f) b) (gives_parameter f) → IsTested (f then g) b c
@@ -87,7 +88,7 @@ named_taken c = record { holds = λ s new ts rest xs b p d. by (b refl) d }
 attributes_taken : (b c : Bool) → IsTaken test.AttributeAhead (rule r.Attr) b c
 attributes_taken b c = record { holds = λ s new ts rest xs b p d. attribute_seen d }
 
-enumerators_taken : (b c : Bool) → IsTaken test.EnumeratorAhead (token k.Comma then rule r.Enumr) b c
+pub enumerators_taken : (b c : Bool) → IsTaken test.EnumeratorAhead (token k.Comma then rule r.Enumr) b c
 enumerators_taken b c = record { holds = λ s new ts rest xs b p d. seen test.EnumeratorAhead r.Enumr names s new ts rest xs d }
 
 items_taken : (b c : Bool) → IsTaken test.ItemAhead (token k.Comma then rule r.Item) b c
@@ -152,64 +153,64 @@ parenthesized_taken b c = record { holds = λ s new ts rest xs b p d. by d }
     by {s = s} (Derives.both (Derives.a_word {t = t} {ts = us} e) (Derives.both d c q) p) = no_type s t us (begins_with refl d)
 
 -- of each production
-pub tested : (n : Rule) → IsTested (table n) (not (is_balanced n)) false
-unfolding plain opens opens_when opens_loop stays table clear holds is_balanced gives_parameter within mem ends_open is_suffix
-tested r.Unit = IsTested.plainly refl
-tested r.External = IsTested.open_when refl (function_taken false) (IsTested.plainly refl) (IsTested.plainly refl)
-tested r.Function = IsTested.plainly refl
-tested r.Declaration = IsTested.open_when refl (named_taken false) (IsTested.plainly refl) (IsTested.plainly refl)
-tested r.Sassert = IsTested.plainly refl
-tested r.Attrs = IsTested.plainly refl
-tested r.Attr = IsTested.plainly refl
-tested r.Specs = IsTested.plainly refl
-tested r.Spec = IsTested.plainly refl
-tested r.Storage = IsTested.plainly refl
-tested r.Typespec = IsTested.plainly refl
-tested r.Qual = IsTested.plainly refl
-tested r.Squals = IsTested.plainly refl
-tested r.Struct = IsTested.plainly refl
-tested r.Members = IsTested.plainly refl
-tested r.Member = IsTested.plainly refl
-tested r.Enum = IsTested.in_then (IsTested.plainly refl) (IsTested.in_then (IsTested.plainly refl) (IsTested.kept_when refl (IsTested.in_then (IsTested.plainly refl) (IsTested.in_then (IsTested.plainly refl) (IsTested.in_then (IsTested.plainly refl) (IsTested.in_then (IsTested.plainly refl) (IsTested.in_then (IsTested.open_loop refl (enumerators_taken _ false) (IsTested.plainly refl)) (IsTested.plainly refl)))))) (IsTested.plainly refl)))
-tested r.Enumr = IsTested.plainly refl
-tested r.Declarator = IsTested.plainly refl
-tested r.Direct = IsTested.in_then (IsTested.in_or (IsTested.in_then (IsTested.plainly refl) (IsTested.open_loop refl (attributes_taken _ false) (IsTested.plainly refl))) (IsTested.plainly refl)) (IsTested.plainly refl)
-tested r.Suffix = IsTested.in_or (IsTested.in_then (IsTested.plainly refl) (IsTested.in_then (IsTested.plainly refl) (IsTested.in_then (IsTested.plainly refl) (IsTested.open_loop refl (attributes_taken _ false) (IsTested.plainly refl))))) (IsTested.in_then (IsTested.plainly refl) (IsTested.in_then (IsTested.plainly refl) (IsTested.in_then (IsTested.plainly refl) (IsTested.open_loop refl (attributes_taken _ false) (IsTested.plainly refl)))))
-tested r.Params = IsTested.in_then (IsTested.plainly refl) (IsTested.in_then (IsTested.open_loop refl (parameters_taken _ false) (IsTested.plainly refl)) (IsTested.plainly refl))
-tested r.Param = IsTested.in_then (IsTested.plainly refl) (IsTested.in_then (IsTested.plainly refl) (IsTested.in_maybe (IsTested.open_when refl declarator_taken (IsTested.plainly refl) (IsTested.plainly refl))))
-tested r.Typename = IsTested.plainly refl
-tested r.Abstract = IsTested.in_or (IsTested.in_then (IsTested.plainly refl) (IsTested.in_then (IsTested.open_loop refl (attributes_taken _ false) (IsTested.plainly refl)) (IsTested.plainly refl))) (IsTested.plainly refl)
-tested r.Adirect = IsTested.in_then (IsTested.open_when refl (abstract_taken _ _) (IsTested.plainly refl) (IsTested.plainly refl)) (IsTested.plainly refl)
-tested r.Initdecl = IsTested.plainly refl
-tested r.Init = IsTested.plainly refl
-tested r.Braces = IsTested.in_then (IsTested.plainly refl) (IsTested.in_then (IsTested.in_maybe (IsTested.in_then (IsTested.plainly refl) (IsTested.in_then (IsTested.open_loop refl (items_taken _ false) (IsTested.plainly refl)) (IsTested.plainly refl)))) (IsTested.plainly refl))
-tested r.Item = IsTested.plainly refl
-tested r.Desig = IsTested.plainly refl
-tested r.Block = IsTested.in_then (IsTested.plainly refl) (IsTested.in_then (IsTested.in_many (IsTested.open_when refl (declaration_taken false) (IsTested.plainly refl) (IsTested.open_when refl (label_taken false) (IsTested.plainly refl) (IsTested.plainly refl)))) (IsTested.plainly refl))
-tested r.Label = IsTested.plainly refl
-tested r.Statement = IsTested.plainly refl
-tested r.Expr = IsTested.plainly refl
-tested r.Assign = IsTested.plainly refl
-tested r.Cond = IsTested.plainly refl
-tested r.Oror = IsTested.plainly refl
-tested r.Andand = IsTested.plainly refl
-tested r.Bor = IsTested.plainly refl
-tested r.Bxor = IsTested.plainly refl
-tested r.Band = IsTested.plainly refl
-tested r.Equal = IsTested.plainly refl
-tested r.Rel = IsTested.plainly refl
-tested r.Shift = IsTested.plainly refl
-tested r.Sum = IsTested.plainly refl
-tested r.Product = IsTested.plainly refl
-tested r.Cast = IsTested.open_when refl (cast_taken false) (IsTested.plainly refl) (IsTested.plainly refl)
-tested r.Unary = IsTested.in_or (IsTested.plainly refl) (IsTested.in_or (IsTested.plainly refl) (IsTested.in_or (IsTested.plainly refl) (IsTested.in_or (IsTested.in_then (IsTested.plainly refl) (IsTested.open_when refl (operand_taken false) (IsTested.plainly refl) (IsTested.plainly refl))) (IsTested.plainly refl))))
-tested r.Postfix = IsTested.plainly refl
-tested r.Primary = IsTested.in_or (IsTested.plainly refl) (IsTested.in_or (IsTested.plainly refl) (IsTested.in_or (IsTested.plainly refl) (IsTested.in_or (IsTested.plainly refl) (IsTested.open_when refl (parenthesized_taken _ _) (IsTested.plainly refl) (IsTested.plainly refl)))))
-tested r.Literal = IsTested.plainly refl
-tested r.Balanced = IsTested.plainly refl
-tested r.Declared = IsTested.plainly refl
-tested r.ParamSpecs = IsTested.plainly refl
-tested r.Body = IsTested.plainly refl
-tested r.Typeof = IsTested.plainly refl
-tested r.If = IsTested.plainly refl
-tested r.For = IsTested.plainly refl
+pub tested : (n : Rule) → in_list n ≡ false → IsTested (table n) (not (is_balanced n)) false
+unfolding in_list plain opens opens_when opens_loop stays table clear holds is_balanced gives_parameter within mem ends_open is_suffix
+tested r.Unit h = IsTested.plainly refl
+tested r.External h = IsTested.open_when refl (function_taken false) (IsTested.plainly refl) (IsTested.plainly refl)
+tested r.Function h = IsTested.plainly refl
+tested r.Declaration h = IsTested.open_when refl (named_taken false) (IsTested.plainly refl) (IsTested.plainly refl)
+tested r.Sassert h = IsTested.plainly refl
+tested r.Attrs h = IsTested.plainly refl
+tested r.Attr h = IsTested.plainly refl
+tested r.Specs h = absurd (cc)
+tested r.Spec h = absurd (cc)
+tested r.Storage h = absurd (cc)
+tested r.Typespec h = absurd (cc)
+tested r.Qual h = IsTested.plainly refl
+tested r.Squals h = absurd (cc)
+tested r.Struct h = absurd (cc)
+tested r.Members h = IsTested.plainly refl
+tested r.Member h = IsTested.plainly refl
+tested r.Enum h = absurd (cc)
+tested r.Enumr h = IsTested.plainly refl
+tested r.Declarator h = IsTested.plainly refl
+tested r.Direct h = IsTested.in_then (IsTested.in_or (IsTested.in_then (IsTested.plainly refl) (IsTested.open_loop refl (attributes_taken _ false) (IsTested.plainly refl))) (IsTested.plainly refl)) (IsTested.plainly refl)
+tested r.Suffix h = IsTested.in_or (IsTested.in_then (IsTested.plainly refl) (IsTested.in_then (IsTested.plainly refl) (IsTested.in_then (IsTested.plainly refl) (IsTested.open_loop refl (attributes_taken _ false) (IsTested.plainly refl))))) (IsTested.in_then (IsTested.plainly refl) (IsTested.in_then (IsTested.plainly refl) (IsTested.in_then (IsTested.plainly refl) (IsTested.open_loop refl (attributes_taken _ false) (IsTested.plainly refl)))))
+tested r.Params h = IsTested.in_then (IsTested.plainly refl) (IsTested.in_then (IsTested.open_loop refl (parameters_taken _ false) (IsTested.plainly refl)) (IsTested.plainly refl))
+tested r.Param h = IsTested.in_then (IsTested.plainly refl) (IsTested.in_then (IsTested.plainly refl) (IsTested.in_maybe (IsTested.open_when refl declarator_taken (IsTested.plainly refl) (IsTested.plainly refl))))
+tested r.Typename h = IsTested.plainly refl
+tested r.Abstract h = IsTested.in_or (IsTested.in_then (IsTested.plainly refl) (IsTested.in_then (IsTested.open_loop refl (attributes_taken _ false) (IsTested.plainly refl)) (IsTested.plainly refl))) (IsTested.plainly refl)
+tested r.Adirect h = IsTested.in_then (IsTested.open_when refl (abstract_taken _ _) (IsTested.plainly refl) (IsTested.plainly refl)) (IsTested.plainly refl)
+tested r.Initdecl h = IsTested.plainly refl
+tested r.Init h = IsTested.plainly refl
+tested r.Braces h = IsTested.in_then (IsTested.plainly refl) (IsTested.in_then (IsTested.in_maybe (IsTested.in_then (IsTested.plainly refl) (IsTested.in_then (IsTested.open_loop refl (items_taken _ false) (IsTested.plainly refl)) (IsTested.plainly refl)))) (IsTested.plainly refl))
+tested r.Item h = IsTested.plainly refl
+tested r.Desig h = IsTested.plainly refl
+tested r.Block h = IsTested.in_then (IsTested.plainly refl) (IsTested.in_then (IsTested.in_many (IsTested.open_when refl (declaration_taken false) (IsTested.plainly refl) (IsTested.open_when refl (label_taken false) (IsTested.plainly refl) (IsTested.plainly refl)))) (IsTested.plainly refl))
+tested r.Label h = IsTested.plainly refl
+tested r.Statement h = IsTested.plainly refl
+tested r.Expr h = IsTested.plainly refl
+tested r.Assign h = IsTested.plainly refl
+tested r.Cond h = IsTested.plainly refl
+tested r.Oror h = IsTested.plainly refl
+tested r.Andand h = IsTested.plainly refl
+tested r.Bor h = IsTested.plainly refl
+tested r.Bxor h = IsTested.plainly refl
+tested r.Band h = IsTested.plainly refl
+tested r.Equal h = IsTested.plainly refl
+tested r.Rel h = IsTested.plainly refl
+tested r.Shift h = IsTested.plainly refl
+tested r.Sum h = IsTested.plainly refl
+tested r.Product h = IsTested.plainly refl
+tested r.Cast h = IsTested.open_when refl (cast_taken false) (IsTested.plainly refl) (IsTested.plainly refl)
+tested r.Unary h = IsTested.in_or (IsTested.plainly refl) (IsTested.in_or (IsTested.plainly refl) (IsTested.in_or (IsTested.plainly refl) (IsTested.in_or (IsTested.in_then (IsTested.plainly refl) (IsTested.open_when refl (operand_taken false) (IsTested.plainly refl) (IsTested.plainly refl))) (IsTested.plainly refl))))
+tested r.Postfix h = IsTested.plainly refl
+tested r.Primary h = IsTested.in_or (IsTested.plainly refl) (IsTested.in_or (IsTested.plainly refl) (IsTested.in_or (IsTested.plainly refl) (IsTested.in_or (IsTested.plainly refl) (IsTested.open_when refl (parenthesized_taken _ _) (IsTested.plainly refl) (IsTested.plainly refl)))))
+tested r.Literal h = IsTested.plainly refl
+tested r.Balanced h = IsTested.plainly refl
+tested r.Declared h = IsTested.plainly refl
+tested r.ParamSpecs h = IsTested.plainly refl
+tested r.Body h = IsTested.plainly refl
+tested r.Typeof h = IsTested.plainly refl
+tested r.If h = IsTested.plainly refl
+tested r.For h = IsTested.plainly refl

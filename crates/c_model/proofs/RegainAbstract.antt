@@ -15,7 +15,6 @@ use Rattle.c_model.specs.NameScopes.{Scopes, kind, after}
 use Rattle.c_model.specs.Derivation.{Derives, Begins}
 use Rattle.c_model.specs.DecidedTable.{nullable, first}
 use Rattle.c_model.specs.ParserWalk.{ahead}
-use Rattle.c_model.specs.OpenTable.{open_table}
 use Rattle.c_model.specs.ParserTable.{table}
 use Rattle.c_model.specs.ParserSets.{tables, firsts, hollow}
 use Rattle.c_model.specs.ParserTests.{parsed, opens_abstract, sees_abstract, sees}
@@ -296,12 +295,12 @@ choice_begun {s = s} (Begins.in_right (Begins.in_rule (Begins.in_right (Begins.i
   | inr h ↦ little e h
 ]
 
-derived : (s new : Scopes) (ts rest : List Terminal) (xs : List Tree) → Derives parsed (open_table r.Adirect) s ts xs new rest → Derives parsed (table r.Adirect) s ts xs new rest
-unfolding open_table grammar table
+derived : (s new : Scopes) (ts rest : List Terminal) (xs : List Tree) → Derives parsed (grammar r.Adirect) s ts xs new rest → Derives parsed (table r.Adirect) s ts xs new rest
+unfolding grammar table
 derived s new ts rest xs (Derives.both d m p) = Derives.both (choice_derived d) m p
 
-begun : (s : Scopes) (ts rest : List Terminal) → Begins parsed (open_table r.Adirect) s ts rest → Begins parsed (table r.Adirect) s ts rest
-unfolding open_table grammar table
+begun : (s : Scopes) (ts rest : List Terminal) → Begins parsed (grammar r.Adirect) s ts rest → Begins parsed (table r.Adirect) s ts rest
+unfolding grammar table
 begun s ts rest Begins.yet = Begins.yet
 begun s ts rest (Begins.in_first d) = Begins.in_first (choice_begun d)
 begun s ts rest (Begins.in_then d e) = Begins.in_then (choice_derived d) e

@@ -12,7 +12,6 @@ use Rattle.c_model.specs.Terminals as k
 use Rattle.c_model.specs.NameScopes.{Scopes}
 use Rattle.c_model.specs.Derivation.{Derives, Begins}
 use Rattle.c_model.specs.ParserWalk.{ahead}
-use Rattle.c_model.specs.OpenTable.{open_table}
 use Rattle.c_model.specs.ParserTable.{table}
 use Rattle.c_model.specs.ParserSets.{tables, follows, hollow}
 use Rattle.c_model.specs.ParserTests.{parsed, sees_attribute}
@@ -96,8 +95,8 @@ nested = word (k.OpenParenthesis ∷ []) act.OpenDeclarator then rule r.Declarat
 abbrev tested : Form
 tested = (name then loop test.AttributeAhead (rule r.Attr) or nested) then many (rule r.Suffix)
 
-direct_derived : (s new : Scopes) (ts rest : List Terminal) (xs : List Tree) → Derives parsed (open_table r.Direct) s ts xs new rest → mem (ahead tables parsed new rest) (follows r.Direct) ≡ true → Derives parsed (table r.Direct) s ts xs new rest
-unfolding open_table grammar table
+direct_derived : (s new : Scopes) (ts rest : List Terminal) (xs : List Tree) → Derives parsed (grammar r.Direct) s ts xs new rest → mem (ahead tables parsed new rest) (follows r.Direct) ≡ true → Derives parsed (table r.Direct) s ts xs new rest
+unfolding grammar table
 direct_derived s new ts rest xs (Derives.both (Derives.left (Derives.both w m p)) l q) h = Derives.both (Derives.left (Derives.both w (looped test.AttributeAhead (rule r.Attr) seen m (unattributed l h)) p)) l q
 direct_derived s new ts rest xs (Derives.both (Derives.right d) l q) h = Derives.both (Derives.right d) l q
 
@@ -109,8 +108,8 @@ name_then : {s mid m : Scopes} {ts later more rest : List Terminal} {xs ys : Lis
 name_then false b w d e = Begins.in_then (Derives.left (Derives.both w (looped test.AttributeAhead (rule r.Attr) seen d b) refl)) e
 name_then true b w d e = Begins.in_first (Begins.in_left (Begins.in_then w (behind_attributes d (little_attribute b (little_suffix b e)))))
 
-direct_begun : (s : Scopes) (ts rest : List Terminal) → Begins parsed (open_table r.Direct) s ts rest → Begins parsed (table r.Direct) s ts rest
-unfolding open_table grammar table
+direct_begun : (s : Scopes) (ts rest : List Terminal) → Begins parsed (grammar r.Direct) s ts rest → Begins parsed (table r.Direct) s ts rest
+unfolding grammar table
 direct_begun s ts rest Begins.yet = Begins.yet
 direct_begun s ts rest (Begins.in_first Begins.yet) = Begins.yet
 direct_begun s ts rest (Begins.in_first (Begins.in_left Begins.yet)) = Begins.yet
@@ -134,8 +133,8 @@ star_unattributed {ts = ts} (Derives.both Derives.stop (Derives.take a) p) h = n
     no false n = refl
 star_unattributed {s = s} {ts = ts} (Derives.both Derives.stop Derives.skip p) h = no_attribute ts (missing (64 ∷ 67 ∷ []) 68 refl refl refl refl s ts h)
 
-abstract_derived : (s new : Scopes) (ts rest : List Terminal) (xs : List Tree) → Derives parsed (open_table r.Abstract) s ts xs new rest → mem (ahead tables parsed new rest) (follows r.Abstract) ≡ true → Derives parsed (table r.Abstract) s ts xs new rest
-unfolding open_table grammar table
+abstract_derived : (s new : Scopes) (ts rest : List Terminal) (xs : List Tree) → Derives parsed (grammar r.Abstract) s ts xs new rest → mem (ahead tables parsed new rest) (follows r.Abstract) ≡ true → Derives parsed (table r.Abstract) s ts xs new rest
+unfolding grammar table
 abstract_derived s new ts rest xs (Derives.left (Derives.both w (Derives.both m e p) q)) h = Derives.left (Derives.both w (Derives.both (looped test.AttributeAhead (rule r.Attr) seen m (star_unattributed e h)) e p) q)
 abstract_derived s new ts rest xs (Derives.right d) h = Derives.right d
 
@@ -148,8 +147,8 @@ star_begun (Begins.in_then m (Begins.in_first q)) = attributes_part (Begins.in_t
 star_begun (Begins.in_then m (Begins.in_then q Begins.yet)) = attributes_part (Begins.in_then (Derives.a_rule m) (begun tables parsed quiet checked q))
 star_begun (Begins.in_then {later = later} m (Begins.in_then q (Begins.in_maybe d))) = behind_many (sees_attribute later) refl m q d
 
-abstract_begun : (s : Scopes) (ts rest : List Terminal) → Begins parsed (open_table r.Abstract) s ts rest → Begins parsed (table r.Abstract) s ts rest
-unfolding open_table grammar table
+abstract_begun : (s : Scopes) (ts rest : List Terminal) → Begins parsed (grammar r.Abstract) s ts rest → Begins parsed (table r.Abstract) s ts rest
+unfolding grammar table
 abstract_begun s ts rest Begins.yet = Begins.yet
 abstract_begun s ts rest (Begins.in_left Begins.yet) = Begins.yet
 abstract_begun s ts rest (Begins.in_left (Begins.in_first w)) = Begins.in_left (Begins.in_first w)

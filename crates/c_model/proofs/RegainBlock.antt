@@ -15,7 +15,6 @@ use Rattle.c_model.specs.NameScopes.{Scopes, kind}
 use Rattle.c_model.specs.Derivation.{Derives, Begins}
 use Rattle.c_model.specs.DecidedTable.{nullable, first, within, apart}
 use Rattle.c_model.specs.ParserWalk.{ahead}
-use Rattle.c_model.specs.OpenTable.{open_table}
 use Rattle.c_model.specs.ParserTable.{table}
 use Rattle.c_model.specs.ParserSets.{tables, firsts, hollow}
 use Rattle.c_model.specs.ParserTests.{parsed, passes, sees_assertion, sees_attributes_alone, specifies, sees_label}
@@ -251,10 +250,6 @@ item_clear : clear item true ≡ true
 unfolding clear is_balanced
 item_clear = refl
 
-brace_clear : clear (word (k.OpenBrace ∷ []) act.OpenBlock) true ≡ true
-unfolding clear holds
-brace_clear = refl
-
 items_derived : {s new : Scopes} {ts rest : List Terminal} {xs : List Tree} → s.brackets ≡ [] → Derives parsed (many item) s ts xs new rest → IsDerived (many chosen) s ts new rest
 items_derived c Derives.stop = record { trees = []; is = Derives.stop }
 items_derived c (Derives.turn d e _) =
@@ -267,12 +262,12 @@ items_begun c Begins.yet = Begins.yet
 items_begun c (Begins.in_turn d) = Begins.in_turn (item_begun c d)
 items_begun c (Begins.in_later d e) = Begins.in_later (item_derived c d).is (items_begun (parsed_clear d true (λ _. c) item_clear) e)
 
-derived : (s new : Scopes) (ts rest : List Terminal) (xs : List Tree) → s.brackets ≡ [] → Derives parsed (open_table r.Block) s ts xs new rest → IsDerived (table r.Block) s ts new rest
-unfolding open_table grammar table
+derived : (s new : Scopes) (ts rest : List Terminal) (xs : List Tree) → s.brackets ≡ [] → Derives parsed (grammar r.Block) s ts xs new rest → IsDerived (table r.Block) s ts new rest
+unfolding grammar table
 derived s new ts rest xs c (Derives.both (Derives.a_word e) (Derives.both m w p) q) = record { trees = _; is = Derives.both (Derives.a_word e) (Derives.both (items_derived c m).is w refl) refl }
 
-fronts : (s : Scopes) (ts rest : List Terminal) → s.brackets ≡ [] → Begins parsed (open_table r.Block) s ts rest → Begins parsed (table r.Block) s ts rest
-unfolding open_table grammar table
+fronts : (s : Scopes) (ts rest : List Terminal) → s.brackets ≡ [] → Begins parsed (grammar r.Block) s ts rest → Begins parsed (table r.Block) s ts rest
+unfolding grammar table
 fronts s ts rest c Begins.yet = Begins.yet
 fronts s ts rest c (Begins.in_first d) = Begins.in_first d
 fronts s ts rest c (Begins.in_then d Begins.yet) = Begins.in_then d Begins.yet

@@ -15,7 +15,6 @@ use Rattle.c_model.specs.NameScopes.{Scopes, kind, after}
 use Rattle.c_model.specs.Derivation.{Derives, Begins}
 use Rattle.c_model.specs.DecidedTable.{nullable, first, within}
 use Rattle.c_model.specs.ParserWalk.{ahead}
-use Rattle.c_model.specs.OpenTable.{open_table}
 use Rattle.c_model.specs.ParserTable.{table}
 use Rattle.c_model.specs.ParserSets.{tables, firsts, follows, hollow}
 use Rattle.c_model.specs.ParserTests.{parsed, passes, sees, sees_cast, sees_type_name, past_brackets}
@@ -172,14 +171,6 @@ longer (Begins.in_then e Begins.yet) = Begins.in_then e Begins.yet
 longer (Begins.in_then e (Begins.in_first d)) = Begins.in_then e (Begins.in_first d)
 longer (Begins.in_then e (Begins.in_then d w)) = Begins.in_then e (Begins.in_then d (Begins.in_first w))
 
--- where a cast is seen, what a unary expression begins a type name in parentheses does
-type_named : (s : Scopes) (ts : List Terminal) → sees_cast s ts ≡ true → sees_type_name s ts ≡ true
-type_named s ts h = by (sees_type_name s ts) h
-  where
-    by : (b : Bool) → (b && not (sees 70 (past_brackets 0 ts))) ≡ true → b ≡ true
-    by true h = refl
-    by false h = h
-
 not_begun : {f : Form} {s : Scopes} {ts rest : List Terminal} → mem 66 (first tables f) ≡ false → mem 116 (first tables f) ≡ false → mem 117 (first tables f) ≡ false → sees_cast s ts ≡ true → Begins parsed f s ts rest → Begins parsed type_operand s ts rest
 not_begun {f = f} {s = s} {ts = ts} a b c n d = elim (entry tables parsed quiet checked d) [
   | inl m ↦ absurd (clash_of (sees_cast s ts) (elsewhere (first tables f) a b c s ts m.begun) n)
@@ -249,12 +240,12 @@ cast_begun true n c (Begins.in_right d) = Begins.in_chosen n (longer (as_type c 
 cast_begun false n c (Begins.in_left d) = Begins.in_other n (as_unary c n d)
 cast_begun false n c (Begins.in_right d) = Begins.in_other n d
 
-casts : (s new : Scopes) (ts rest : List Terminal) (xs : List Tree) → s.brackets ≡ [] → Derives parsed (open_table r.Cast) s ts xs new rest → Derives parsed (table r.Cast) s ts xs new rest
-unfolding open_table grammar table
+casts : (s new : Scopes) (ts rest : List Terminal) (xs : List Tree) → s.brackets ≡ [] → Derives parsed (grammar r.Cast) s ts xs new rest → Derives parsed (table r.Cast) s ts xs new rest
+unfolding grammar table
 casts s new ts rest xs c d = cast_derived c d
 
-cast_fronts : (s : Scopes) (ts rest : List Terminal) → s.brackets ≡ [] → Begins parsed (open_table r.Cast) s ts rest → Begins parsed (table r.Cast) s ts rest
-unfolding open_table grammar table
+cast_fronts : (s : Scopes) (ts rest : List Terminal) → s.brackets ≡ [] → Begins parsed (grammar r.Cast) s ts rest → Begins parsed (table r.Cast) s ts rest
+unfolding grammar table
 cast_fronts s ts rest c d = cast_begun (sees_cast s ts) refl c d
 
 pub cast_expression : IsRegained r.Cast
@@ -280,16 +271,16 @@ behind_unary : (s : Scopes) (ts : List Terminal) → mem (ahead tables parsed s 
 unfolding follows mem
 behind_unary s ts h = missing (follows r.Unary) 70 refl refl refl refl s ts h
 
-unaries : (s new : Scopes) (ts rest : List Terminal) (xs : List Tree) → s.brackets ≡ [] → Derives parsed (open_table r.Unary) s ts xs new rest → sees 70 rest ≡ false → Derives parsed (table r.Unary) s ts xs new rest
-unfolding open_table grammar table
+unaries : (s new : Scopes) (ts rest : List Terminal) (xs : List Tree) → s.brackets ≡ [] → Derives parsed (grammar r.Unary) s ts xs new rest → sees 70 rest ≡ false → Derives parsed (table r.Unary) s ts xs new rest
+unfolding grammar table
 unaries s new ts rest xs c (Derives.left d) h = Derives.left d
 unaries s new ts rest xs c (Derives.right (Derives.left d)) h = Derives.right (Derives.left d)
 unaries s new ts rest xs c (Derives.right (Derives.right (Derives.left d))) h = Derives.right (Derives.right (Derives.left d))
 unaries s new ts rest xs c (Derives.right (Derives.right (Derives.right (Derives.left (Derives.both (Derives.a_word e) d p))))) h = Derives.right (Derives.right (Derives.right (Derives.left (Derives.both (Derives.a_word e) (operand_derived c h d) p))))
 unaries s new ts rest xs c (Derives.right (Derives.right (Derives.right (Derives.right d)))) h = Derives.right (Derives.right (Derives.right (Derives.right d)))
 
-unary_fronts : (s : Scopes) (ts rest : List Terminal) → s.brackets ≡ [] → Begins parsed (open_table r.Unary) s ts rest → Begins parsed (table r.Unary) s ts rest
-unfolding open_table grammar table
+unary_fronts : (s : Scopes) (ts rest : List Terminal) → s.brackets ≡ [] → Begins parsed (grammar r.Unary) s ts rest → Begins parsed (table r.Unary) s ts rest
+unfolding grammar table
 unary_fronts s ts rest c Begins.yet = Begins.yet
 unary_fronts s ts rest c (Begins.in_left d) = Begins.in_left d
 unary_fronts s ts rest c (Begins.in_right Begins.yet) = Begins.yet

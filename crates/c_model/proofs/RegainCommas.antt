@@ -11,14 +11,13 @@ use Rattle.c_model.specs.declared.grammar.Test.{Test}
 use Rattle.c_model.specs.declared.grammar.Test.TheVariants as test
 use Rattle.c_model.specs.declared.grammar.Terminal.{Terminal}
 use Rattle.c_model.specs.declared.grammar.Tree.{Tree}
-use Rattle.c_model.specs.GrammarForm.{Form, word, rule, ◌then◌, maybe, many, loop, when, mem}
+use Rattle.c_model.specs.GrammarForm.{Form, word, rule, ◌then◌, maybe, many, loop, mem}
 use Rattle.c_model.specs.Grammar.{grammar, token}
 use Rattle.c_model.specs.Terminals as k
 use Rattle.c_model.specs.NameScopes.{Scopes, kind, after, bracket_kind, closes, is_type}
 use Rattle.c_model.specs.Derivation.{Derives, Begins}
 use Rattle.c_model.specs.DecidedTable.{first}
 use Rattle.c_model.specs.ParserWalk.{ahead}
-use Rattle.c_model.specs.OpenTable.{open_table, enumerators}
 use Rattle.c_model.specs.ParserTable.{table}
 use Rattle.c_model.specs.ParserSets.{tables, firsts, hollow}
 use Rattle.c_model.specs.ParserTests.{parsed, passes, sees, sees_name}
@@ -163,12 +162,12 @@ in_braces (Begins.in_first d) = Begins.in_first (list_fronts d)
 in_braces (Begins.in_then d Begins.yet) = Begins.in_first (list_fronts (begun tables parsed quiet checked d))
 in_braces (Begins.in_then d (Begins.in_word e)) = Begins.in_then (list_regained d (Derives.a_word e)) (Begins.in_word e)
 
-braces_derived : (s new : Scopes) (ts rest : List Terminal) (xs : List Tree) → Derives parsed (open_table r.Braces) s ts xs new rest → Derives parsed (table r.Braces) s ts xs new rest
-unfolding open_table grammar table
+braces_derived : (s new : Scopes) (ts rest : List Terminal) (xs : List Tree) → Derives parsed (grammar r.Braces) s ts xs new rest → Derives parsed (table r.Braces) s ts xs new rest
+unfolding grammar table
 braces_derived s new ts rest xs (Derives.both w (Derives.both m b q) p) = Derives.both w (Derives.both (list_regained m b) b q) p
 
-braces_begun : (s : Scopes) (ts rest : List Terminal) → Begins parsed (open_table r.Braces) s ts rest → Begins parsed (table r.Braces) s ts rest
-unfolding open_table grammar table
+braces_begun : (s : Scopes) (ts rest : List Terminal) → Begins parsed (grammar r.Braces) s ts rest → Begins parsed (table r.Braces) s ts rest
+unfolding grammar table
 braces_begun s ts rest d = then_begun (token k.OpenBrace) _ _ (λ s ts rest b. in_braces b) d
 
 pub braces : IsRegained r.Braces
@@ -219,39 +218,3 @@ enumerator_last s s' t u ts e = rw (no_name s s' u e) (and_false (t.kind == 64))
 pub names : IsComma test.EnumeratorAhead r.Enumr
 unfolding hollow
 names = record { moves = refl; again = enumerator_again; brace = enumerator_brace; last = enumerator_last }
-
-abbrev head : Form
-head = maybe (word (k.Name ∷ k.TypedefName ∷ []) act.TypeSpecifier)
-
-abbrev fixed : Form
-fixed = maybe (word (k.Colon ∷ []) act.AwaitBraces then rule r.Squals)
-
-abbrev tail : Form
-tail = word (k.Name ∷ k.TypedefName ∷ []) act.TypeSpecifier then maybe (token k.Colon then rule r.Squals)
-
-abbrev close : Form
-close = word (k.CloseBrace ∷ []) act.TypeSpecifier
-
-abbrev turns : Form
-turns = loop test.EnumeratorAhead (token k.Comma then rule r.Enumr)
-
-choice_derived : {s new : Scopes} {ts rest : List Terminal} {xs : List Tree} → Derives parsed (when test.EnumeratorsAhead enumerators tail) s ts xs new rest → Derives parsed (when test.EnumeratorsAhead (head then fixed then word (k.OpenBrace ∷ []) act.Enclose then rule r.Enumr then turns then trailing then close) tail) s ts xs new rest
-choice_derived (Derives.chosen a (Derives.both b (Derives.both c (Derives.both d (Derives.both e (Derives.both l (Derives.both t z q6) q5) q4) q3) q2) q1)) =
-    Derives.chosen a (Derives.both b (Derives.both c (Derives.both d (Derives.both e (Derives.both (list_derived test.EnumeratorAhead r.Enumr names act.TypeSpecifier l t z) (Derives.both t z q6) q5) q4) q3) q2) q1)
-choice_derived (Derives.other a d) = Derives.other a d
-
-choice_begun : {s : Scopes} {ts rest : List Terminal} → Begins parsed (when test.EnumeratorsAhead enumerators tail) s ts rest → Begins parsed (when test.EnumeratorsAhead (head then fixed then word (k.OpenBrace ∷ []) act.Enclose then rule r.Enumr then turns then trailing then close) tail) s ts rest
-choice_begun Begins.yet = Begins.yet
-choice_begun (Begins.in_chosen a d) = Begins.in_chosen a (then_begun head _ _ (λ s ts rest b. then_begun fixed _ _ (λ s ts rest c. then_begun (word (k.OpenBrace ∷ []) act.Enclose) _ _ (λ s ts rest e. then_begun (rule r.Enumr) _ _ (λ s ts rest l. list_begun test.EnumeratorAhead r.Enumr names act.TypeSpecifier l) e) c) b) d)
-choice_begun (Begins.in_other a d) = Begins.in_other a d
-
-enum_derived : (s new : Scopes) (ts rest : List Terminal) (xs : List Tree) → Derives parsed (open_table r.Enum) s ts xs new rest → Derives parsed (table r.Enum) s ts xs new rest
-unfolding open_table table
-enum_derived s new ts rest xs (Derives.both w (Derives.both a c q) p) = Derives.both w (Derives.both a (choice_derived c) q) p
-
-enum_begun : (s : Scopes) (ts rest : List Terminal) → Begins parsed (open_table r.Enum) s ts rest → Begins parsed (table r.Enum) s ts rest
-unfolding open_table table
-enum_begun s ts rest d = then_begun (word (k.Enum ∷ []) act.OpenSpecifier) _ _ (λ s ts rest b. then_begun (rule r.Attrs) _ _ (λ s ts rest c. choice_begun c) b) d
-
-pub enumeration : IsRegained r.Enum
-enumeration = record { derived = λ s new ts rest xs c d h. record { trees = xs; is = enum_derived s new ts rest xs d }; begun = λ s ts rest c d. enum_begun s ts rest d }

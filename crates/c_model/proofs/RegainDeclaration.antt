@@ -14,7 +14,6 @@ use Rattle.c_model.specs.NameScopes.{Scopes}
 use Rattle.c_model.specs.Derivation.{Derives, Begins}
 use Rattle.c_model.specs.DecidedTable.{nullable, first}
 use Rattle.c_model.specs.ParserWalk.{ahead}
-use Rattle.c_model.specs.OpenTable.{open_table}
 use Rattle.c_model.specs.ParserTable.{table}
 use Rattle.c_model.specs.ParserSets.{tables, firsts, hollow}
 use Rattle.c_model.specs.ParserTests.{parsed, passes, sees_assertion, sees_attributes_alone}
@@ -104,12 +103,12 @@ choice_begun c (Begins.in_right (Begins.in_right (Begins.in_then d (Begins.in_fi
 choice_begun c (Begins.in_right (Begins.in_right (Begins.in_then d (Begins.in_then (Derives.a_rule e) Begins.yet)))) = in_attributes (Begins.in_rule (Begins.in_later d (begun tables parsed quiet checked e)))
 choice_begun {s = s} {ts = ts} c (Begins.in_right (Begins.in_right (Begins.in_then d (Begins.in_then e (Begins.in_word w))))) = Begins.in_other (by_alone s ts (alone c d e w)) (Begins.in_right (Begins.in_then d (Begins.in_then e (Begins.in_word w))))
 
-derived : (s new : Scopes) (ts rest : List Terminal) (xs : List Tree) → s.brackets ≡ [] → Derives parsed (open_table r.Declaration) s ts xs new rest → Derives parsed (table r.Declaration) s ts xs new rest
-unfolding open_table grammar table
+derived : (s new : Scopes) (ts rest : List Terminal) (xs : List Tree) → s.brackets ≡ [] → Derives parsed (grammar r.Declaration) s ts xs new rest → Derives parsed (table r.Declaration) s ts xs new rest
+unfolding grammar table
 derived s new ts rest xs c d = choice_derived c d
 
-fronts : (s : Scopes) (ts rest : List Terminal) → s.brackets ≡ [] → Begins parsed (open_table r.Declaration) s ts rest → Begins parsed (table r.Declaration) s ts rest
-unfolding open_table grammar table
+fronts : (s : Scopes) (ts rest : List Terminal) → s.brackets ≡ [] → Begins parsed (grammar r.Declaration) s ts rest → Begins parsed (table r.Declaration) s ts rest
+unfolding grammar table
 fronts s ts rest c d = choice_begun c d
 
 pub declaration : IsRegained r.Declaration

@@ -15,7 +15,6 @@ use Rattle.c_model.specs.NameScopes.{Scopes, kind}
 use Rattle.c_model.specs.Derivation.{Derives, Begins}
 use Rattle.c_model.specs.DecidedTable.{nullable, first, within, apart}
 use Rattle.c_model.specs.ParserWalk.{ahead}
-use Rattle.c_model.specs.OpenTable.{open_table}
 use Rattle.c_model.specs.ParserTable.{table}
 use Rattle.c_model.specs.ParserSets.{tables, firsts, hollow}
 use Rattle.c_model.specs.ParserTests.{parsed, past_attributes, sees, specifies, may_come, sees_function, past_specifiers, past_declarator}
@@ -257,12 +256,12 @@ choice_begun true n c (Begins.in_right d) = Begins.in_chosen n (as_function c n 
 choice_begun false n c (Begins.in_left d) = Begins.in_other n (as_declaration c n d)
 choice_begun false n c (Begins.in_right d) = Begins.in_other n d
 
-derived : (s new : Scopes) (ts rest : List Terminal) (xs : List Tree) → s.brackets ≡ [] → Derives parsed (open_table r.External) s ts xs new rest → Derives parsed (table r.External) s ts xs new rest
-unfolding open_table grammar table
+derived : (s new : Scopes) (ts rest : List Terminal) (xs : List Tree) → s.brackets ≡ [] → Derives parsed (grammar r.External) s ts xs new rest → Derives parsed (table r.External) s ts xs new rest
+unfolding grammar table
 derived s new ts rest xs c d = choice_derived c d
 
-fronts : (s : Scopes) (ts rest : List Terminal) → s.brackets ≡ [] → Begins parsed (open_table r.External) s ts rest → Begins parsed (table r.External) s ts rest
-unfolding open_table grammar table
+fronts : (s : Scopes) (ts rest : List Terminal) → s.brackets ≡ [] → Begins parsed (grammar r.External) s ts rest → Begins parsed (table r.External) s ts rest
+unfolding grammar table
 fronts s ts rest c d = choice_begun (sees_function s ts) refl c d
 
 pub external : IsRegained r.External

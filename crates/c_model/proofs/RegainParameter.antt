@@ -16,7 +16,6 @@ use Rattle.c_model.specs.NameScopes.{Scopes, kind, after}
 use Rattle.c_model.specs.Derivation.{Derives, Begins}
 use Rattle.c_model.specs.DecidedTable.{first}
 use Rattle.c_model.specs.ParserWalk.{ahead}
-use Rattle.c_model.specs.OpenTable.{open_table}
 use Rattle.c_model.specs.ParserTable.{table}
 use Rattle.c_model.specs.ParserSets.{tables, firsts, follows, hollow}
 use Rattle.c_model.specs.ParserTests.{parsed, sees_attribute, names_declarator}
@@ -339,13 +338,13 @@ specifiers_of (Derives.a_rule d) = refl
 clear_behind : {s mid m : Scopes} {ts later more : List Terminal} {xs ys : List Tree} → s.brackets ≡ [] → Derives parsed (rule r.Attrs) s ts xs mid later → Derives parsed (rule r.ParamSpecs) mid later ys m more → m.brackets ≡ []
 clear_behind c a d = parsed_clear d true (λ _. parsed_clear a true (λ _. c) clear_attributes) clear_specifiers
 
-derived : (s new : Scopes) (ts rest : List Terminal) (xs : List Tree) → s.brackets ≡ [] → Derives parsed (open_table r.Param) s ts xs new rest → mem (ahead tables parsed new rest) (64 ∷ 67 ∷ []) ≡ true → Derives parsed (table r.Param) s ts xs new rest
-unfolding open_table grammar table
+derived : (s new : Scopes) (ts rest : List Terminal) (xs : List Tree) → s.brackets ≡ [] → Derives parsed (grammar r.Param) s ts xs new rest → mem (ahead tables parsed new rest) (64 ∷ 67 ∷ []) ≡ true → Derives parsed (table r.Param) s ts xs new rest
+unfolding grammar table
 derived s new ts rest xs c (Derives.both a (Derives.both d Derives.skip p) q) h = Derives.both a (Derives.both d Derives.skip p) q
 derived s new ts rest xs c (Derives.both a (Derives.both d (Derives.take e) p) q) h = Derives.both a (Derives.both d (Derives.take (either_derived (specifiers_of d) (clear_behind c a d) h e)) p) q
 
-fronts : (s : Scopes) (ts rest : List Terminal) → s.brackets ≡ [] → Begins parsed (open_table r.Param) s ts rest → Begins parsed (table r.Param) s ts rest
-unfolding open_table grammar table
+fronts : (s : Scopes) (ts rest : List Terminal) → s.brackets ≡ [] → Begins parsed (grammar r.Param) s ts rest → Begins parsed (table r.Param) s ts rest
+unfolding grammar table
 fronts s ts rest c Begins.yet = Begins.yet
 fronts s ts rest c (Begins.in_first a) = Begins.in_first a
 fronts s ts rest c (Begins.in_then a Begins.yet) = Begins.in_then a Begins.yet

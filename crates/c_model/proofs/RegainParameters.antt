@@ -14,7 +14,6 @@ use Rattle.c_model.specs.NameScopes.{Scopes, kind, after}
 use Rattle.c_model.specs.Derivation.{Derives, Begins}
 use Rattle.c_model.specs.DecidedTable.{first}
 use Rattle.c_model.specs.ParserWalk.{ahead}
-use Rattle.c_model.specs.OpenTable.{open_table}
 use Rattle.c_model.specs.ParserTable.{table}
 use Rattle.c_model.specs.ParserSets.{tables, firsts, follows, hollow}
 use Rattle.c_model.specs.ParserTests.{parsed, passes, sees}
@@ -87,12 +86,12 @@ edge' s ts rest (Begins.in_maybe (Begins.in_then (Derives.a_word {t = t} {ts = u
 edge' s ts rest (Begins.in_maybe (Begins.in_then (Derives.a_word {t = t} e) (Begins.in_word {t = u} {ts = us} e'))) =
     Begins.in_then (Derives.done (ended s t u us e')) (Begins.in_maybe (Begins.in_then (Derives.a_word e) (Begins.in_word e')))
 
-derived : (s new : Scopes) (ts rest : List Terminal) (xs : List Tree) → Derives parsed (open_table r.Params) s ts xs new rest → mem (ahead tables parsed new rest) (follows r.Params) ≡ true → IsDerived (table r.Params) s ts new rest
-unfolding open_table grammar table follows
+derived : (s new : Scopes) (ts rest : List Terminal) (xs : List Tree) → Derives parsed (grammar r.Params) s ts xs new rest → mem (ahead tables parsed new rest) (follows r.Params) ≡ true → IsDerived (table r.Params) s ts new rest
+unfolding grammar table follows
 derived s new ts rest xs (Derives.both d (Derives.both m t p) q) h = record { trees = xs; is = Derives.both d (Derives.both (looped test.ParameterAhead more seen m (behind t h)) t p) q }
 
-begun : (s : Scopes) (ts rest : List Terminal) → Begins parsed (open_table r.Params) s ts rest → Begins parsed (table r.Params) s ts rest
-unfolding open_table grammar table
+begun : (s : Scopes) (ts rest : List Terminal) → Begins parsed (grammar r.Params) s ts rest → Begins parsed (table r.Params) s ts rest
+unfolding grammar table
 begun s ts rest Begins.yet = Begins.yet
 begun s ts rest (Begins.in_first d) = Begins.in_first d
 begun s ts rest (Begins.in_then d e) = Begins.in_then d (begun_list test.ParameterAhead more ellipsis seen edge edge' e)

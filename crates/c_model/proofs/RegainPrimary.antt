@@ -14,7 +14,6 @@ use Rattle.c_model.specs.NameScopes.{Scopes, kind, after}
 use Rattle.c_model.specs.Derivation.{Derives, Begins}
 use Rattle.c_model.specs.DecidedTable.{first, within, apart}
 use Rattle.c_model.specs.ParserWalk.{ahead}
-use Rattle.c_model.specs.OpenTable.{open_table}
 use Rattle.c_model.specs.ParserTable.{table}
 use Rattle.c_model.specs.ParserSets.{tables, firsts, hollow}
 use Rattle.c_model.specs.ParserTests.{parsed, passes, begins_type, sees_type_name}
@@ -61,8 +60,8 @@ sees_type s t us e h = ap not (type_seen s t us e h)
 abbrev pub parenthesis : Form
 parenthesis = when test.ParenthesizedExpression (token k.OpenParenthesis then rule r.Expr then token k.CloseParenthesis) (rule r.Literal)
 
-derived : (s new : Scopes) (ts rest : List Terminal) (xs : List Tree) → Derives parsed (open_table r.Primary) s ts xs new rest → Derives parsed (table r.Primary) s ts xs new rest
-unfolding open_table grammar table hollow
+derived : (s new : Scopes) (ts rest : List Terminal) (xs : List Tree) → Derives parsed (grammar r.Primary) s ts xs new rest → Derives parsed (table r.Primary) s ts xs new rest
+unfolding grammar table hollow
 derived s new ts rest xs (Derives.left d) = Derives.left d
 derived s new ts rest xs (Derives.right (Derives.left d)) = Derives.right (Derives.left d)
 derived s new ts rest xs (Derives.right (Derives.right (Derives.left d))) = Derives.right (Derives.right (Derives.left d))
@@ -109,8 +108,8 @@ either (Begins.in_right (Begins.in_rule (Begins.in_then (Derives.a_word {s = s} 
 either (Begins.in_right (Begins.in_rule (Begins.in_then (Derives.a_word e) (Begins.in_first d)))) = type_name e d
 either (Begins.in_right (Begins.in_rule (Begins.in_then (Derives.a_word {s = s} {t = t} {ts = us} e) (Begins.in_then d d')))) = Begins.in_other (sees_type s t us e (begins_with refl d)) (Begins.in_rule (Begins.in_then (Derives.a_word e) (Begins.in_then d d')))
 
-begun : (s : Scopes) (ts rest : List Terminal) → Begins parsed (open_table r.Primary) s ts rest → Begins parsed (table r.Primary) s ts rest
-unfolding open_table grammar table hollow
+begun : (s : Scopes) (ts rest : List Terminal) → Begins parsed (grammar r.Primary) s ts rest → Begins parsed (table r.Primary) s ts rest
+unfolding grammar table hollow
 begun s ts rest Begins.yet = Begins.yet
 begun s ts rest (Begins.in_left d) = Begins.in_left d
 begun s ts rest (Begins.in_right Begins.yet) = Begins.yet

@@ -1,5 +1,5 @@
--- The test of the attributes behind an array or a list of parameters loses nothing: where an attribute comes next, it is
--- theirs, and no array begins so.
+-- The test of the attributes behind an array or a list of parameters loses nothing: where an attribute comes next, it
+-- is theirs, and no array begins so.
 use Rattle.std.proofs.Common.{◌≡◌, ℕ, Bool, true, false, ◌||◌, List, [], ◌∷◌, refl}
 use Rattle.std.specs.Prelude.{◌==◌}
 use Rattle.c_model.specs.declared.grammar.Rule.TheVariants as r
@@ -14,7 +14,6 @@ use Rattle.c_model.specs.NameScopes.{Scopes}
 use Rattle.c_model.specs.Derivation.{Derives, Begins}
 use Rattle.c_model.specs.DecidedTable.{first, nullable}
 use Rattle.c_model.specs.ParserWalk.{ahead}
-use Rattle.c_model.specs.OpenTable.{open_table}
 use Rattle.c_model.specs.ParserTable.{table}
 use Rattle.c_model.specs.ParserSets.{tables, firsts}
 use Rattle.c_model.specs.ParserTests.{parsed, sees_attribute}
@@ -28,23 +27,23 @@ use Rattle.c_model.proofs.RegainAttributes.{IsAttributed, attributes_begun, behi
 use Rattle.c_model.proofs.OpenSuffixes.{is_suffix, ends_open, IsKept, IsBegun, IsProduced}
 
 -- where no attribute comes next
-closed : {s new : Scopes} {ts rest : List Terminal} {xs : List Tree} → sees_attribute rest ≡ false → Derives parsed (open_table r.Suffix) s ts xs new rest → Derives parsed (table r.Suffix) s ts xs new rest
-unfolding open_table grammar table
+closed : {s new : Scopes} {ts rest : List Terminal} {xs : List Tree} → sees_attribute rest ≡ false → Derives parsed (grammar r.Suffix) s ts xs new rest → Derives parsed (table r.Suffix) s ts xs new rest
+unfolding grammar table
 closed b (Derives.left (Derives.both w (Derives.both c (Derives.both v m p) q) z)) = Derives.left (Derives.both w (Derives.both c (Derives.both v (looped test.AttributeAhead (rule r.Attr) seen m b) p) q) z)
 closed b (Derives.right (Derives.both w (Derives.both c (Derives.both v m p) q) z)) = Derives.right (Derives.both w (Derives.both c (Derives.both v (looped test.AttributeAhead (rule r.Attr) seen m b) p) q) z)
 
 -- where one does, it goes on
-further : {s new : Scopes} {ts rest more : List Terminal} {xs : List Tree} → sees_attribute rest ≡ true → IsLittle rest more → Derives parsed (open_table r.Suffix) s ts xs new rest → Begins parsed (table r.Suffix) s ts more
-unfolding open_table grammar table
+further : {s new : Scopes} {ts rest more : List Terminal} {xs : List Tree} → sees_attribute rest ≡ true → IsLittle rest more → Derives parsed (grammar r.Suffix) s ts xs new rest → Begins parsed (table r.Suffix) s ts more
+unfolding grammar table
 further b l (Derives.left (Derives.both w (Derives.both c (Derives.both v m p) q) z)) = Begins.in_left (Begins.in_then w (Begins.in_then c (Begins.in_then v (behind_attributes m (little_attribute b l)))))
 further b l (Derives.right (Derives.both w (Derives.both c (Derives.both v m p) q) z)) = Begins.in_right (Begins.in_then w (Begins.in_then c (Begins.in_then v (behind_attributes m (little_attribute b l)))))
 
-suffix_moves : nullable tables (open_table r.Suffix) ≡ false
-unfolding nullable open_table grammar
+suffix_moves : nullable tables (grammar r.Suffix) ≡ false
+unfolding nullable grammar
 suffix_moves = refl
 
-suffix_first : first tables (open_table r.Suffix) ≡ 68 ∷ 66 ∷ []
-unfolding first nullable open_table grammar
+suffix_first : first tables (grammar r.Suffix) ≡ 68 ∷ 66 ∷ []
+unfolding first nullable grammar
 suffix_first = refl
 
 suffix_firsts : firsts r.Suffix ≡ 66 ∷ 68 ∷ []
@@ -61,7 +60,7 @@ turned F G j p q h = rw q (swapped (j == 68) (j == 66) (rw p at h))
     swapped false true h = refl
     swapped false false h = h
 
-kept : (b : Bool) (s mid : Scopes) (ts rest : List Terminal) (xs : List Tree) → sees_attribute rest ≡ b → Derives parsed (open_table r.Suffix) s ts xs mid rest → IsKept (rule r.Suffix) s ts (parsed.close r.Suffix mid) rest
+kept : (b : Bool) (s mid : Scopes) (ts rest : List Terminal) (xs : List Tree) → sees_attribute rest ≡ b → Derives parsed (grammar r.Suffix) s ts xs mid rest → IsKept (rule r.Suffix) s ts (parsed.close r.Suffix mid) rest
 unfolding ends_open is_suffix first
 kept false s mid ts rest xs b d = IsKept.whole (Derives.a_rule (closed b d))
 kept true s mid ts rest xs b d = IsKept.half refl b (turned _ _ (ahead tables parsed s ts) suffix_first suffix_firsts (starts suffix_moves d)) (λ more l. Begins.in_rule (further b l d))
@@ -79,8 +78,8 @@ at_parameters w c v (IsAttributed.held b) = IsBegun.held (Begins.in_rule (Begins
 at_parameters w c v (IsAttributed.ended l IsLittle.unread) = IsBegun.held (Begins.in_rule (Begins.in_right (Begins.in_then w (Begins.in_then c (Begins.in_then v (begun tables parsed quiet checked l))))))
 at_parameters w c v (IsAttributed.ended l (IsLittle.bracket h)) = IsBegun.ended refl (Derives.a_rule (Derives.right (Derives.both w (Derives.both c (Derives.both v l refl) refl) refl))) h
 
-suffix_begun : (s : Scopes) (ts rest : List Terminal) → Begins parsed (open_table r.Suffix) s ts rest → IsBegun (rule r.Suffix) s ts rest
-unfolding open_table grammar table
+suffix_begun : (s : Scopes) (ts rest : List Terminal) → Begins parsed (grammar r.Suffix) s ts rest → IsBegun (rule r.Suffix) s ts rest
+unfolding grammar table
 suffix_begun s ts rest Begins.yet = IsBegun.held Begins.yet
 suffix_begun s ts rest (Begins.in_left Begins.yet) = IsBegun.held Begins.yet
 suffix_begun s ts rest (Begins.in_left (Begins.in_first w)) = IsBegun.held (Begins.in_rule (Begins.in_left (Begins.in_first w)))

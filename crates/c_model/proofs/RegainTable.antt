@@ -7,9 +7,9 @@ use Rattle.c_model.specs.declared.grammar.Tree.{Tree}
 use Rattle.c_model.specs.GrammarForm.{Form, rule, mem}
 use Rattle.c_model.specs.NameScopes.{Scopes}
 use Rattle.c_model.specs.Derivation.{Derives, Begins}
+use Rattle.c_model.specs.Grammar.{grammar}
 use Rattle.c_model.specs.DecidedTable.{within, first, nullable}
 use Rattle.c_model.specs.ParserWalk.{ahead}
-use Rattle.c_model.specs.OpenTable.{open_table}
 use Rattle.c_model.specs.ParserTable.{table}
 use Rattle.c_model.specs.ParserSets.{tables, firsts, follows, hollow}
 use Rattle.c_model.specs.ParserTests.{parsed}
@@ -27,10 +27,10 @@ pub record IsDerived (f : Form) (s : Scopes) (ts : List Terminal) (new : Scopes)
   pub trees : List Tree
   pub is : Derives parsed f s ts trees new rest
 
--- of one production: what its open form derives before what may follow, and begins, its own form does
+-- of one production: what the form of the grammar derives before what may follow, and begins, that of the parser does
 pub record IsRegained (n : Rule) : Type 0 where
-  pub derived : (s new : Scopes) (ts rest : List Terminal) (xs : List Tree) → Clear (not (is_balanced n)) s → Derives parsed (open_table n) s ts xs new rest → mem (ahead tables parsed new rest) (follows n) ≡ true → IsDerived (table n) s ts new rest
-  pub begun : (s : Scopes) (ts rest : List Terminal) → Clear (not (is_balanced n)) s → Begins parsed (open_table n) s ts rest → Begins parsed (table n) s ts rest
+  pub derived : (s new : Scopes) (ts rest : List Terminal) (xs : List Tree) → Clear (not (is_balanced n)) s → Derives parsed (grammar n) s ts xs new rest → mem (ahead tables parsed new rest) (follows n) ≡ true → IsDerived (table n) s ts new rest
+  pub begun : (s : Scopes) (ts rest : List Terminal) → Clear (not (is_balanced n)) s → Begins parsed (grammar n) s ts rest → Begins parsed (table n) s ts rest
 
 -- a nonterminal that takes a token begins with one of its first tokens
 pub begins_with : {n : Rule} {s new : Scopes} {ts rest : List Terminal} {xs : List Tree} → hollow n ≡ false → Derives parsed (rule n) s ts xs new rest → mem (ahead tables parsed s ts) (firsts n) ≡ true

@@ -14,16 +14,16 @@ use Rattle.c_model.proofs.BracketKinds.{not_both, closing_kind}
 use Rattle.c_model.proofs.ClearBrackets.{closing, at_closing}
 use Rattle.c_model.proofs.BalancedForms.{even, level, passes_over, last_closing}
 
-positive : (n : ℕ) → (suc n == 0) ≡ false
+pub positive : (n : ℕ) → (suc n == 0) ≡ false
 positive n = decide (suc n == 0) (λ e. let q : suc n ≡ 0 = eqb-true (suc n) 0 e in absurd (omega arith))
 
 not_one : (n : ℕ) → (suc (suc n) == 1) ≡ false
 not_one n = decide (suc (suc n) == 1) (λ e. let q : suc (suc n) ≡ 1 = eqb-true (suc (suc n)) 1 e in absurd (omega arith))
 
-one_more : (n : ℕ) → suc n + 1 ≡ suc (suc n)
+pub one_more : (n : ℕ) → suc n + 1 ≡ suc (suc n)
 one_more n = omega arith
 
-one_less : (n : ℕ) → suc (suc n) - 1 ≡ suc n
+pub one_less : (n : ℕ) → suc (suc n) - 1 ≡ suc n
 one_less n = omega arith
 
 pub or_false : (b : Bool) → (b || false) ≡ b
@@ -75,15 +75,15 @@ unfolding past_declarator
 declarator_other n t ts o c = rw (positive n, o, c) refl
 
 -- and the scan for the closing bracket
-brackets_opening : (n : ℕ) (t : Terminal) (ts : List Terminal) → is_opening t.kind ≡ true → past_brackets (suc n) (t ∷ ts) ≡ past_brackets (suc (suc n)) ts
+pub brackets_opening : (n : ℕ) (t : Terminal) (ts : List Terminal) → is_opening t.kind ≡ true → past_brackets (suc n) (t ∷ ts) ≡ past_brackets (suc (suc n)) ts
 unfolding past_brackets
 brackets_opening n t ts o = rw (o, one_more n) refl
 
-brackets_closing : (n : ℕ) (t : Terminal) (ts : List Terminal) → is_closing t.kind ≡ true → past_brackets (suc (suc n)) (t ∷ ts) ≡ past_brackets (suc n) ts
+pub brackets_closing : (n : ℕ) (t : Terminal) (ts : List Terminal) → is_closing t.kind ≡ true → past_brackets (suc (suc n)) (t ∷ ts) ≡ past_brackets (suc n) ts
 unfolding past_brackets
 brackets_closing n t ts c = rw (not_both t.kind c, c, not_one n, one_less n) refl
 
-brackets_other : (n : ℕ) (t : Terminal) (ts : List Terminal) → is_opening t.kind ≡ false → is_closing t.kind ≡ false → past_brackets (suc n) (t ∷ ts) ≡ past_brackets (suc n) ts
+pub brackets_other : (n : ℕ) (t : Terminal) (ts : List Terminal) → is_opening t.kind ≡ false → is_closing t.kind ≡ false → past_brackets (suc n) (t ∷ ts) ≡ past_brackets (suc n) ts
 unfolding past_brackets
 brackets_other n t ts o c = rw (o, c) refl
 

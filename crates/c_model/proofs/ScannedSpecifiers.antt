@@ -73,7 +73,7 @@ pub record IsWords (F : List ℕ) : Type 0 where
   pub colon : mem 72 F ≡ false
   pub specifiers : within tables F (firsts r.Specs) ≡ true
 
-none : (F : List ℕ) (k j : ℕ) → mem k F ≡ true → mem j F ≡ false → (k == j) ≡ false
+pub none : (F : List ℕ) (k j : ℕ) → mem k F ≡ true → mem j F ≡ false → (k == j) ≡ false
 none F k j m n = decide (k == j) (λ e. let q : k ≡ j = eqb-true k j e in clash (mem j F) (subst (λ z. mem z F ≡ true) q m) n)
 
 between_word : (F : List ℕ) → IsWords F → (typed : Bool) (base s : Scopes) (t : Terminal) (ts : List Terminal) → mem (kind s t) F ≡ true → past_specifiers (Between typed) base (t ∷ ts) ≡ past_specifiers (behind_word typed t.kind) base ts
@@ -92,13 +92,13 @@ by_word F f a false typed base s t ts e = between_word F f typed base s t ts e
 by_word F f a true true base s t ts e = between_word F f true base s t ts e
 by_word F f a true false base s t ts e = colon_word F f a base s t ts e
 
-abbrev heads : List ℕ
+abbrev pub heads : List ℕ
 heads = k.Struct ∷ k.Enum ∷ []
 
-abbrev typeofs : List ℕ
+abbrev pub typeofs : List ℕ
 typeofs = k.Typeof ∷ k.TypeofUnqual ∷ []
 
-either_of : (a b : Bool) → (a || (b || false)) ≡ false → (a || b) ≡ false
+pub either_of : (a b : Bool) → (a || (b || false)) ≡ false → (a || b) ≡ false
 either_of true b h = h
 either_of false true h = h
 either_of false false h = h
@@ -112,7 +112,7 @@ pair_false : (n a b : ℕ) → mem n (a ∷ b ∷ []) ≡ false → (n == a || n
 unfolding mem
 pair_false n a b h = either_of (n == a) (n == b) h
 
-pair_true : (n a b : ℕ) → mem n (a ∷ b ∷ []) ≡ true → (n == a || n == b) ≡ true
+pub pair_true : (n a b : ℕ) → mem n (a ∷ b ∷ []) ≡ true → (n == a || n == b) ≡ true
 unfolding mem
 pair_true n a b h = either_is (n == a) (n == b) h
 
@@ -125,10 +125,10 @@ or_right_false true b h = absurd (cc)
 or_right_false false b h = h
 
 -- a word that is no type
-none_head : (n : ℕ) → mem n heads ≡ false → ((n == k.Struct) ≡ false) × ((n == k.Enum) ≡ false)
+pub none_head : (n : ℕ) → mem n heads ≡ false → ((n == k.Struct) ≡ false) × ((n == k.Enum) ≡ false)
 none_head n h = let p = pair_false n k.Struct k.Enum h in (or_left_false _ _ p, or_right_false _ _ p)
 
-plain_place : (F : List ℕ) (typed : Bool) (n : ℕ) → apart tables F heads ≡ true → apart tables F typeofs ≡ true → apart tables F type_words ≡ true → mem n F ≡ true → behind_word typed n ≡ Between typed
+pub plain_place : (F : List ℕ) (typed : Bool) (n : ℕ) → apart tables F heads ≡ true → apart tables F typeofs ≡ true → apart tables F type_words ≡ true → mem n F ≡ true → behind_word typed n ≡ Between typed
 plain_place F typed n a b c m =
     let x = none_head n (decide (mem n heads) (λ e. apart_mem tables n F heads a m e)) in
     let y = pair_false n k.Typeof k.TypeofUnqual (decide (mem n typeofs) (λ e. apart_mem tables n F typeofs b m e)) in
@@ -162,7 +162,7 @@ function_words : IsWords (k.Inline ∷ k.Noreturn ∷ [])
 unfolding mem within firsts
 function_words = record { plain = (refl, refl, refl, refl, refl); brace = refl; colon = refl; specifiers = refl }
 
-types : IsWords type_words
+pub types : IsWords type_words
 unfolding mem within firsts
 types = record { plain = (refl, refl, refl, refl, refl); brace = refl; colon = refl; specifiers = refl }
 
@@ -171,7 +171,7 @@ unfolding table apart mem
 over_storage base {s = s} (Derives.a_rule (Derives.left (Derives.a_word {t = t} {ts = us} e))) = word_over (k.Typedef ∷ []) typedef_words refl refl refl base s (after act.Typedef s t) t us refl e
 over_storage base {s = s} (Derives.a_rule (Derives.right (Derives.a_word {t = t} {ts = us} e))) = word_over storages storage_words refl refl refl base s (after act.Specifier s t) t us refl e
 
-qualifier_first : within tables qualifiers (firsts r.Qual) ≡ true
+pub qualifier_first : within tables qualifiers (firsts r.Qual) ≡ true
 unfolding within mem firsts
 qualifier_first = refl
 
@@ -185,7 +185,7 @@ over_qualifier : (c : Bool) (base : Scopes) {s new : Scopes} {ts rest : List Ter
 unfolding table
 over_qualifier c base {s = s} (Derives.a_rule (Derives.a_word {t = t} {ts = us} e)) = qualifier_at c s.reading.typed base s t us e
 
-types_apart : apart tables type_words (firsts r.Qual) ≡ true
+pub types_apart : apart tables type_words (firsts r.Qual) ≡ true
 unfolding apart mem firsts
 types_apart = refl
 
@@ -204,7 +204,7 @@ over_type c base s t ts e =
     or_true false = refl
 
 -- a typedef name
-named : (b x y : Bool) (j : ℕ) → (b ≡ false → mem j (112 ∷ []) ≡ false) → mem (if b then (if x then (if y then 113 else 112) else 111) else j) (112 ∷ []) ≡ true → (b ≡ true) × (x ≡ true) × (y ≡ false)
+pub named : (b x y : Bool) (j : ℕ) → (b ≡ false → mem j (112 ∷ []) ≡ false) → mem (if b then (if x then (if y then 113 else 112) else 111) else j) (112 ∷ []) ≡ true → (b ≡ true) × (x ≡ true) × (y ≡ false)
 unfolding mem
 named true true true j n h = absurd (cc)
 named true true false j n h = (refl, refl, refl)
@@ -215,7 +215,7 @@ first_of : (a b c : Bool) → ((a || b) || c) ≡ false → a ≡ false
 first_of true b c h = h
 first_of false b c h = refl
 
-none_112 : (bs : List ℕ) (j : ℕ) → (j == 111) ≡ false → mem (bracket_kind bs j) (112 ∷ []) ≡ false
+pub none_112 : (bs : List ℕ) (j : ℕ) → (j == 111) ≡ false → mem (bracket_kind bs j) (112 ∷ []) ≡ false
 unfolding mem
 none_112 [] j h = alone (is_given j) j (λ g. ungiven j g)
   where
@@ -252,19 +252,19 @@ over_name c base s t ts b e =
     step_name c s.reading.typed base t ts n.0 (subst (λ z. is_type z t.name ≡ true) b.entries n.1) n.2 ∙ typed_past c base (after act.TypeSpecifier s t) ts refl
 
 -- behind `struct`, `enum` and `typeof`
-struct_word : IsWords (k.Struct ∷ [])
+pub struct_word : IsWords (k.Struct ∷ [])
 unfolding mem within firsts
 struct_word = record { plain = (refl, refl, refl, refl, refl); brace = refl; colon = refl; specifiers = refl }
 
-enum_word : IsWords (k.Enum ∷ [])
+pub enum_word : IsWords (k.Enum ∷ [])
 unfolding mem within firsts
 enum_word = record { plain = (refl, refl, refl, refl, refl); brace = refl; colon = refl; specifiers = refl }
 
-struct_apart : apart tables (k.Struct ∷ []) (firsts r.Qual) ≡ true
+pub struct_apart : apart tables (k.Struct ∷ []) (firsts r.Qual) ≡ true
 unfolding apart mem firsts
 struct_apart = refl
 
-enum_apart : apart tables (k.Enum ∷ []) (firsts r.Qual) ≡ true
+pub enum_apart : apart tables (k.Enum ∷ []) (firsts r.Qual) ≡ true
 unfolding apart mem firsts
 enum_apart = refl
 
@@ -280,11 +280,11 @@ to_enum c typed base s t ts e =
     let p : behind_word (c || typed) t.kind ≡ BehindHead false = rw m refl in
     by_word (k.Enum ∷ []) enum_word enum_apart c typed base s t ts e ∙ ap (λ z. past_specifiers z base ts) p
 
-typeof_words : IsWords typeofs
+pub typeof_words : IsWords typeofs
 unfolding mem within firsts
 typeof_words = record { plain = (refl, refl, refl, refl, refl); brace = refl; colon = refl; specifiers = refl }
 
-typeof_apart : apart tables typeofs (firsts r.Qual) ≡ true
+pub typeof_apart : apart tables typeofs (firsts r.Qual) ≡ true
 unfolding apart mem firsts
 typeof_apart = refl
 
@@ -343,7 +343,7 @@ unfolding past_specifiers specifier_step
 as_tag base [] = refl
 as_tag base (t ∷ ts) = refl
 
-no_name : mem 111 (firsts r.Qual) ≡ false
+pub no_name : mem 111 (firsts r.Qual) ≡ false
 unfolding mem firsts
 no_name = refl
 
@@ -363,7 +363,7 @@ none_two (last ∷ bs) j h = both (is_closing j) (closes last j) (is_given j) j 
     both false d true j h f = refl
     both false d false j h f = rw (h, f refl) refl
 
-tag_name : (s : Scopes) (t : Terminal) → mem (kind s t) (111 ∷ 112 ∷ []) ≡ true → (t.kind == 111) ≡ true
+pub tag_name : (s : Scopes) (t : Terminal) → mem (kind s t) (111 ∷ 112 ∷ []) ≡ true → (t.kind == 111) ≡ true
 tag_name s t e = by (t.kind == 111) (is_type s.entries t.name) s.reading.typed (bracket_kind s.brackets t.kind) (none_two s.brackets t.kind) e
   where
     by : (b x y : Bool) (j : ℕ) → (b ≡ false → mem j (111 ∷ 112 ∷ []) ≡ false) → mem (if b then (if x then (if y then 113 else 112) else 111) else j) (111 ∷ 112 ∷ []) ≡ true → b ≡ true
@@ -377,7 +377,7 @@ pub close_bracket : within tables (69 ∷ []) closing ≡ true
 unfolding within mem
 close_bracket = refl
 
-close_brace : within tables (71 ∷ []) closing ≡ true
+pub close_brace : within tables (71 ∷ []) closing ≡ true
 unfolding within mem
 close_brace = refl
 
@@ -418,48 +418,48 @@ heads_over i base {s = s} {ts = t ∷ us} b (Derives.turn d e _) =
     at_attribute i base t us g.0 ∙ (over_attribute us 0 i base ∙ (ap (λ z. past_specifiers (BehindHead i) base z) g.1 ∙ heads_over i base p e))
 
 -- members, enumerators and the operand of `typeof`
-abbrev members : Form
+abbrev pub members : Form
 members = rule r.Member then many (rule r.Member)
 
-abbrev enumerators : Form
+abbrev pub enumerators : Form
 enumerators = rule r.Enumr then loop test.EnumeratorAhead (token k.Comma then rule r.Enumr) then maybe (token k.Comma)
 
-abbrev operand : Form
+abbrev pub operand : Form
 operand = rule r.Expr or rule r.Typename
 
-members_even : even members 0 ≡ true
+pub members_even : even members 0 ≡ true
 unfolding even level
 members_even = refl
 
-members_level : level members 0 ≡ 0
+pub members_level : level members 0 ≡ 0
 unfolding level
 members_level = refl
 
-enumerators_even : even enumerators 0 ≡ true
+pub enumerators_even : even enumerators 0 ≡ true
 unfolding even level fits is_some pred holds within apart mem
 enumerators_even = refl
 
-enumerators_level : level enumerators 0 ≡ 0
+pub enumerators_level : level enumerators 0 ≡ 0
 unfolding level
 enumerators_level = refl
 
-operand_even : even operand 0 ≡ true
+pub operand_even : even operand 0 ≡ true
 unfolding even level
 operand_even = refl
 
-operand_level : level operand 0 ≡ 0
+pub operand_level : level operand 0 ≡ 0
 unfolding level
 operand_level = refl
 
-brace_kind : (s : Scopes) (t : Terminal) → mem (kind s t) (70 ∷ []) ≡ true → (t.kind == 70) ≡ true
+pub brace_kind : (s : Scopes) (t : Terminal) → mem (kind s t) (70 ∷ []) ≡ true → (t.kind == 70) ≡ true
 unfolding mem
 brace_kind s t e = is_it 70 (refl, refl, refl, refl, refl) s t e
 
-colon_kind : (s : Scopes) (t : Terminal) → mem (kind s t) (72 ∷ []) ≡ true → (t.kind == 72) ≡ true
+pub colon_kind : (s : Scopes) (t : Terminal) → mem (kind s t) (72 ∷ []) ≡ true → (t.kind == 72) ≡ true
 unfolding mem
 colon_kind s t e = is_it 72 (refl, refl, refl, refl, refl) s t e
 
-parenthesis_kind : (s : Scopes) (t : Terminal) → mem (kind s t) (66 ∷ []) ≡ true → (t.kind == 66) ≡ true
+pub parenthesis_kind : (s : Scopes) (t : Terminal) → mem (kind s t) (66 ∷ []) ≡ true → (t.kind == 66) ≡ true
 unfolding mem
 parenthesis_kind s t e = is_it 66 (refl, refl, refl, refl, refl) s t e
 
@@ -470,7 +470,7 @@ group_over base us vs q = over_group us 0 base ∙ ap (λ z. past_specifiers (Be
 pub cleared : {s mid : Scopes} {ts later : List Terminal} {xs : List Tree} → s.brackets ≡ [] → Derives parsed (many (rule r.Attr)) s ts xs mid later → mid.brackets ≡ []
 cleared b a = ap (λ z. z.brackets) (over_many b a).state ∙ b
 
-attributes_same : {base s m : Scopes} (t : Terminal) {us later : List Terminal} {xs : List Tree} → IsSame base s → Derives parsed (many (rule r.Attr)) (after act.OpenSpecifier s t) us xs m later → m.entries ≡ base.entries
+pub attributes_same : {base s m : Scopes} (t : Terminal) {us later : List Terminal} {xs : List Tree} → IsSame base s → Derives parsed (many (rule r.Attr)) (after act.OpenSpecifier s t) us xs m later → m.entries ≡ base.entries
 attributes_same t b a = ap (λ z. z.entries) (over_many b.clear a).state ∙ b.entries
 
 members_over : (place : Within) (base : Scopes) {s new : Scopes} {ts rest : List Terminal} {xs : List Tree} → ((t : Terminal) (us : List Terminal) → (t.kind == 70) ≡ true → past_specifiers place base (t ∷ us) ≡ past_specifiers (Group 1) base us) → s.brackets ≡ [] → Derives parsed (rule r.Members) s ts xs new rest → past_specifiers place base ts ≡ past_specifiers (Between true) base rest
@@ -508,15 +508,15 @@ typeof_over : (c : Bool) (base : Scopes) {s new : Scopes} {ts rest : List Termin
 unfolding leaves_last
 typeof_over c base b (Derives.a_rule d) = typeof_scan c base b d ∙ left_past r.Typeof c base refl refl d
 
-clear_rule : (n : Rule) → is_balanced n ≡ false → clear (rule n) true ≡ true
+pub clear_rule : (n : Rule) → is_balanced n ≡ false → clear (rule n) true ≡ true
 unfolding clear
 clear_rule n h = ap not h
 
 -- a nonterminal that declares nothing leaves the scopes as they are
-same_after : (n : Rule) (base : Scopes) {s new : Scopes} {ts rest : List Terminal} {xs : List Tree} → declares n ≡ false → is_balanced n ≡ false → IsSame base s → Derives parsed (rule n) s ts xs new rest → IsSame base new
+pub same_after : (n : Rule) (base : Scopes) {s new : Scopes} {ts rest : List Terminal} {xs : List Tree} → declares n ≡ false → is_balanced n ≡ false → IsSame base s → Derives parsed (rule n) s ts xs new rest → IsSame base new
 same_after n base p q b d = record { entries = same_entries n p d ∙ b.entries; clear = parsed_clear d true (λ _. b.clear) (clear_rule n q) }
 
-abbrev element : Form
+abbrev pub element : Form
 element = rule r.Typespec or rule r.Qual
 
 same_element : (base : Scopes) {s new : Scopes} {ts rest : List Terminal} {xs : List Tree} → IsSame base s → Derives parsed element s ts xs new rest → IsSame base new
@@ -525,16 +525,16 @@ same_element base b (Derives.left d) = same_after r.Typespec base refl refl b d
 same_element base b (Derives.right d) = same_after r.Qual base refl refl b d
 
 -- an enumeration: its enumerators in braces, and what may stand before them
-abbrev braced : Form
+abbrev pub braced : Form
 braced = word (k.OpenBrace ∷ []) act.Enclose then rule r.Enumr then loop test.EnumeratorAhead (token k.Comma then rule r.Enumr) then maybe (token k.Comma) then word (k.CloseBrace ∷ []) act.TypeSpecifier
 
-abbrev based : Form
+abbrev pub based : Form
 based = maybe (word (k.Colon ∷ []) act.AwaitBraces then rule r.Squals)
 
-abbrev tag : Form
+abbrev pub tag : Form
 tag = word (k.Name ∷ k.TypedefName ∷ []) act.TypeSpecifier
 
-abbrev enumerated : Form
+abbrev pub enumerated : Form
 enumerated = when test.EnumeratorsAhead (maybe tag then based then braced) (tag then maybe (token k.Colon then rule r.Squals))
 
 -- the place behind `enum` or its tag
@@ -556,11 +556,11 @@ braces_over place base {s = s} arrive c (Derives.both (Derives.a_word {t = o} {t
 ungiven_kind : (F : List ℕ) (j : ℕ) → mem 112 F ≡ false → mem 113 F ≡ false → mem 116 F ≡ false → mem j F ≡ true → is_given j ≡ false
 ungiven_kind F j a b c m = rw (none F j 112 m a, none F j 113 m b, none F j 116 m c) refl
 
-qualifier_goes_on : (s : Scopes) (t : Terminal) → s.brackets ≡ [] → (t.kind == 111) ≡ false → mem t.kind (firsts r.Qual) ≡ true → mem (kind s t) type_kinds ≡ true
+pub qualifier_goes_on : (s : Scopes) (t : Terminal) → s.brackets ≡ [] → (t.kind == 111) ≡ false → mem t.kind (firsts r.Qual) ≡ true → mem (kind s t) type_kinds ≡ true
 unfolding mem firsts within
 qualifier_goes_on s t b n m = rw (n, b, ungiven_kind (firsts r.Qual) t.kind refl refl refl m) (within_mem tables t.kind (firsts r.Qual) type_kinds refl m)
 
-name_goes_on : (s : Scopes) (t : Terminal) → s.reading.typed ≡ false → (t.kind == 111) ≡ true → is_type s.entries t.name ≡ true → mem (kind s t) type_kinds ≡ true
+pub name_goes_on : (s : Scopes) (t : Terminal) → s.reading.typed ≡ false → (t.kind == 111) ≡ true → is_type s.entries t.name ≡ true → mem (kind s t) type_kinds ≡ true
 unfolding mem firsts
 name_goes_on s t y n i = rw (n, i, y) refl
 
@@ -667,7 +667,7 @@ name_end : (typed : Bool) (base : Scopes) (t : Terminal) (ts : List Terminal) �
 unfolding past_specifiers specifier_step
 name_end typed base t ts n h = rw (n, h) refl
 
-of_end : (F : List ℕ) (b x y : Bool) (j : ℕ) → mem 112 F ≡ false → mem (if b then (if x then (if y then 113 else 112) else 111) else j) F ≡ true → b ≡ true → (y || not x) ≡ true
+pub of_end : (F : List ℕ) (b x y : Bool) (j : ℕ) → mem 112 F ≡ false → mem (if b then (if x then (if y then 113 else 112) else 111) else j) F ≡ true → b ≡ true → (y || not x) ≡ true
 of_end F true true true j n h q = refl
 of_end F true true false j n h q = absurd (clash _ h n)
 of_end F true false true j n h q = refl

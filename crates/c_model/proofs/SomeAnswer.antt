@@ -12,14 +12,13 @@ use Rattle.c_model.specs.ParserWalk.{Reads, Fails, Meets}
 use Rattle.c_model.specs.WalkedDerivation.{derivation, front, front_with}
 use Rattle.c_model.specs.ParserSets.{tables}
 use Rattle.c_model.specs.ParserTests.{parsed}
+use Rattle.c_model.specs.SyntaxTree.{c_language}
 use Rattle.c_model.specs.UnitSyntax.{unit, IsUnit, IsFault, IsTooDeep, Walk, stuck, ended, walked, in_unit, before_fault}
 use Rattle.c_model.specs.OneAnswer.{HasAnswer}
-use Rattle.c_model.proofs.DecidedGrammar.{unique, sound, begun, read_so_far, refuted, ended as goes_no_further, first_fault, no_longer, behind}
+use Rattle.c_model.proofs.DecidedGrammar.{sound, begun, read_so_far, refuted, ended as goes_no_further, first_fault, no_longer, behind}
 use Rattle.c_model.proofs.ParserDecided.{quiet, checked}
-use Rattle.c_model.proofs.PreferredUnit.{preferred}
-use Rattle.c_model.proofs.Forget.{forget_begun_unit}
-use Rattle.c_model.proofs.ForgetMarks.{same_parts}
-use Rattle.c_model.proofs.RegainUnit.{open_fault}
+use Rattle.c_model.proofs.PreferredGrammar.{with_parts}
+use Rattle.c_model.proofs.GrammarUnit.{grammar_fault}
 use Rattle.c_model.proofs.TotalWalk.{Outcome, read, failed, ends}
 use Rattle.c_model.proofs.MarkedWalks.{Starts, met_read, met_failed, derived_length, begun_length}
 use Rattle.c_model.proofs.OneAnswer.{before_end, at_end, unit_walkable}
@@ -79,13 +78,9 @@ pub whole : {ts rest : List Terminal} {xs : List Tree} {new : Scopes} (p : Reads
 whole {ts = ts} {xs = xs} {new = new} p e h = by e p h
   where
     here : (p : Reads tables parsed unit start ts xs new []) → AreShallow (marks parsed (derivation tables parsed p)) → IsUnit ts xs
-    here p h = let g = same_parts ts xs new [] (derivation tables parsed p) in record {
-      scopes = new;
-      derived = g.0;
-      alone = record { scopes = new; derived = derivation tables parsed p; alone = λ ys z k. (unique tables parsed quiet checked p (0 ∷ []) before_end k (at_end z)).trees };
-      preferred = preferred ts xs new (derivation tables parsed p);
-      parts = g.1;
-      shallow = subst AreShallow (sym g.1) h;
+    here p h = let g = with_parts ts xs new (derivation tables parsed p) in record {
+      preferred = g.preferred;
+      shallow = subst AreShallow (sym g.parts) h;
     }
 
     by : {rest : List Terminal} → rest ≡ [] → (p : Reads tables parsed unit start ts xs new rest) → AreShallow (marks parsed (derivation tables parsed p)) → IsUnit ts xs
@@ -96,8 +91,7 @@ fault {ts = ts} {rest = rest} w h =
     let f = fault_at w in
     let v = renamed w (drop (length ts - length rest) ts) (left_over w) in
     record {
-      begun = forget_begun_unit ts _ f.begun;
-      first = open_fault ts _ f;
+      first = grammar_fault ts _ f;
       walk = v.walk;
       shallow = subst AreShallow (sym v.marks_are) h;
     }
@@ -115,18 +109,18 @@ deep_before {ts = ts} {rest = rest} w k d =
     let v = renamed w (drop (length ts - length rest) ts) (left_over w) in
     let l = inside (walked w) k d in
     let m = marked w in
-    before_fault v.walk (open_fault ts _ (fault_at w)) (omega (arith, l, m)) (subst (λ z. IsFirstDeep z k) (sym v.marks_are) d)
+    before_fault v.walk (grammar_fault ts _ (fault_at w)) (omega (arith, l, m)) (subst (λ z. IsFirstDeep z k) (sym v.marks_are) d)
 
 -- it stands at a token
 pub at_token : (ts : List Terminal) (k : ℕ) → IsTooDeep ts k → k < length ts
-at_token ts k (in_unit d a) = let l = inside (marks parsed d) k a in let m = derived_length parsed d false 0 nothing_read in omega (arith, l, m)
+at_token ts k (in_unit p a) = let l = inside (marks c_language p.derived) k a in let m = derived_length c_language p.derived false 0 nothing_read in omega (arith, l, m)
 at_token ts k (before_fault w f l a) = let m = f.within in omega (arith, l, m)
 
 pub deep_inside : {ts rest : List Terminal} {xs : List Tree} {new : Scopes} (p : Reads tables parsed unit start ts xs new rest) (k : ℕ) → rest ≡ [] → IsFirstDeep (marks parsed (derivation tables parsed p)) k → IsTooDeep ts k
 deep_inside {ts = ts} {xs = xs} {new = new} p k e h = by e p h
   where
     by : {rest : List Terminal} → rest ≡ [] → (p : Reads tables parsed unit start ts xs new rest) → IsFirstDeep (marks parsed (derivation tables parsed p)) k → IsTooDeep ts k
-    by e = subst (λ z. (p : Reads tables parsed unit start ts xs new z) → IsFirstDeep (marks parsed (derivation tables parsed p)) k → IsTooDeep ts k) (sym e) (λ p h. in_unit (derivation tables parsed p) h)
+    by e = subst (λ z. (p : Reads tables parsed unit start ts xs new z) → IsFirstDeep (marks parsed (derivation tables parsed p)) k → IsTooDeep ts k) (sym e) (λ p h. let g = with_parts ts xs new (derivation tables parsed p) in in_unit g.preferred (subst (λ z. IsFirstDeep z k) (sym g.parts) h))
 
 -- ---- a walk to a token that is too deep
 

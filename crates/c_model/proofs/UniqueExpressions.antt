@@ -100,9 +100,6 @@ opens_cast frames t z n = ap (λ b. if b then Some (InType frames (types.Before 
 calls : (frames : List Frame) (f e : Expr) (z : List ℕ) → WrittenExpr e → step (Have frames f (codes "(" ++ (expr_text e ++ z))) ≡ Some (Want (InCall f [] ∷ frames) (expr_text e ++ z))
 calls frames f e z w = ap (arguments frames f (expr_text e ++ z)) (first_of e z w).closes_not
 
-operation_ends : (o : Operation) (z : List ℕ) → begins_with is_word_byte (codes " " ++ (operation_text o ++ z)) ≡ false
-operation_ends o z = refl
-
 more_ends : (es : Exprs) (z : List ℕ) → begins_with is_word_byte (more_arguments_text es ++ (codes ")" ++ z)) ≡ false
 more_ends no_exprs z = refl
 more_ends (more_exprs e es) z = refl

@@ -1,6 +1,6 @@
--- The place of the first syntax error: the first token with which no derivation can go on. It is stated of any language:
--- the place that is meant is that of the grammar's, and the parser is proved to answer that of its own table.
-use Rattle.std.specs.Prelude.{ℕ, ◌≤◌, ◌≡◌, ◌+◌, List, [], length, drop}
+-- The place of the first syntax error: the first token with which no derivation can go on. It is stated of any language;
+-- the one that is meant is the grammar's.
+use Rattle.std.specs.Prelude.{ℕ, ◌≤◌, ◌+◌, List, [], length, drop}
 use Rattle.c_model.specs.GrammarForm.{Form}
 use Rattle.c_model.specs.Derivation.{Language, Derives, Begins}
 
@@ -10,9 +10,3 @@ pub record FaultsAt (L : Language) (f : Form) (s : L.State) (ts : List L.Token) 
   pub begun : Begins L f s ts (drop k ts)
   pub no_more : (rest : List L.Token) → Begins L f s ts rest → length ts ≤ k + length rest
   pub not_whole : (xs : List L.Tree) (new : L.State) → Derives L f s ts xs new [] → ⊥
-
--- all tokens are derived, as these trees and no others
-pub record IsWhole (L : Language) (f : Form) (s : L.State) (ts : List L.Token) (xs : List L.Tree) : Type 0 where
-  pub scopes : L.State
-  pub derived : Derives L f s ts xs scopes []
-  pub alone : (ys : List L.Tree) (new : L.State) → Derives L f s ts ys new [] → ys ≡ xs

@@ -111,7 +111,6 @@ pub mod Untested
 pub mod Preferences
 pub mod DepthPlace
 pub mod LeftWeights
-pub mod OpenTable
 pub mod UnitSyntax
 pub mod OneAnswer
 pub mod TerminalsOf

@@ -12,7 +12,6 @@ ghost use Rattle.c_model.specs.GrammarForm.{Form, rule};
 ghost use Rattle.c_model.specs.NameScopes.{Scopes, start};
 ghost use Rattle.c_model.specs.SyntaxTree.{c_language};
 ghost use Rattle.c_model.specs.Grammar.{grammar};
-ghost use Rattle.c_model.specs.OpenTable.{opened};
 ghost use Rattle.c_model.specs.OneAnswer.{ExcludeEachOther, HasAnswer};
 ghost use Rattle.c_model.specs.UnitSyntax.{IsTooDeep, HasParts};
 ghost use Rattle.c_model.specs.Untested.{untested};
@@ -52,28 +51,16 @@ pub fn untested_table_is_grammar()
     ensures { (rule : Rule) → untested (table rule) ≡ grammar rule }
 {}
 
-/// The tests that the open table leaves out lose no unit.
-#[tactic(auto, using(crate::proofs::RegainUnit::whole))]
+/// The parser's tests of the tokens ahead lose no unit: what the grammar derives of a unit, the parser's table derives.
+#[tactic(auto, using(crate::proofs::GrammarUnit::whole))]
 pub fn tests_lose_no_unit()
-    ensures { (ts : List Terminal) (xs : List Tree) (new : Scopes) → Derives opened (rule r.Unit) start ts xs new [] → (ys : List Tree) × Derives parsed (rule r.Unit) start ts ys new [] }
+    ensures { (ts : List Terminal) (xs : List Tree) (new : Scopes) → Derives c_language (rule r.Unit) start ts xs new [] → (ys : List Tree) × Derives parsed (rule r.Unit) start ts ys new [] }
 {}
 
 /// Nor do they lose a front of a unit.
-#[tactic(auto, using(crate::proofs::RegainUnit::front))]
+#[tactic(auto, using(crate::proofs::GrammarUnit::front))]
 pub fn tests_lose_no_front()
-    ensures { (ts rest : List Terminal) → Begins opened (rule r.Unit) start ts rest → Begins parsed (rule r.Unit) start ts rest }
-{}
-
-/// They add no unit, and no tree.
-#[tactic(auto, using(crate::proofs::RegainUnit::unit_back))]
-pub fn tests_add_no_unit()
-    ensures { (ts : List Terminal) (xs : List Tree) (new : Scopes) (rest : List Terminal) → Derives parsed (rule r.Unit) start ts xs new rest → Derives opened (rule r.Unit) start ts xs new rest }
-{}
-
-/// Nor do they add a front.
-#[tactic(auto, using(crate::proofs::RegainUnit::front_back))]
-pub fn tests_add_no_front()
-    ensures { (ts rest : List Terminal) → Begins parsed (rule r.Unit) start ts rest → Begins opened (rule r.Unit) start ts rest }
+    ensures { (ts rest : List Terminal) → Begins c_language (rule r.Unit) start ts rest → Begins parsed (rule r.Unit) start ts rest }
 {}
 
 /// At most one tree is preferred, by the grammar and by any other table and tests.
@@ -82,11 +69,17 @@ pub fn one_preferred()
     ensures { (body : Rule → Form) (test : Test → Scopes → List Terminal → Bool) (form : Form) (s : Scopes) (ts : List Terminal) (xs ys : List Tree) → IsPreferred (record c_language { body = body; test = test }) form s ts xs → IsPreferred (record c_language { body = body; test = test }) form s ts ys → xs ≡ ys }
 {}
 
-/// The parser's tree is the preferred one: no other derivation by the open table takes an optional part, or the
-/// alternative that is written first, where the parser's left it out and all choices before were the same.
-#[tactic(auto, using(crate::proofs::PreferredUnit::preferred))]
+/// The parser's tree is the preferred one: no other derivation by the grammar takes an optional part, or the alternative
+/// that is written first, where the parser's left it out and all choices before were the same.
+#[tactic(auto, using(crate::proofs::PreferredGrammar::preferred))]
 pub fn parsed_is_preferred()
-    ensures { (ts : List Terminal) (xs : List Tree) (new : Scopes) → Derives parsed (rule r.Unit) start ts xs new [] → IsPreferred opened (rule r.Unit) start ts xs }
+    ensures { (ts : List Terminal) (xs : List Tree) (new : Scopes) → Derives parsed (rule r.Unit) start ts xs new [] → IsPreferred c_language (rule r.Unit) start ts xs }
+{}
+
+/// So the parser's table derives one tree of a unit at most.
+#[tactic(auto, using(crate::proofs::PreferredGrammar::one_tree))]
+pub fn parsed_has_one_tree()
+    ensures { (ts : List Terminal) (xs ys : List Tree) (new other : Scopes) → Derives parsed (rule r.Unit) start ts xs new [] → Derives parsed (rule r.Unit) start ts ys other [] → xs ≡ ys }
 {}
 
 /// The tokens are a unit, have a first fault, or have a token in too many parts: at most one of the three, in one way.
@@ -106,8 +99,8 @@ pub fn too_deep_at_token()
     ensures { (ts : List Terminal) (k : ℕ) → IsTooDeep ts k → k < length ts }
 {}
 
-/// The grammar derives what the parser's table derives, as the same trees and with the same parts round each token.
-#[tactic(auto, using(crate::proofs::ForgetMarks::with_parts))]
+/// The preferred derivation has the same parts round each token as the parser's.
+#[tactic(auto, using(crate::proofs::PreferredGrammar::with_parts))]
 pub fn parts_are_the_grammars()
-    ensures { (ts : List Terminal) (xs : List Tree) (new : Scopes) (d : Derives parsed (rule r.Unit) start ts xs new []) → HasParts ts xs new (marks parsed d) }
+    ensures { (ts : List Terminal) (xs : List Tree) (new : Scopes) (d : Derives parsed (rule r.Unit) start ts xs new []) → HasParts ts xs (marks parsed d) }
 {}
