@@ -1,0 +1,11 @@
+use Rattle.std.proofs.Common.{◌≡◌, length}
+use Rattle.c_model.specs.SyntaxDeclarationActions as d
+use Rattle.syntax_actions.specs.Meanings.{meanings_seen}
+use Rattle.syntax_actions.proofs.MemberLists.{before}
+use Rattle.syntax_actions.proofs.structures.members.Given as goal
+
+abbrev pub invariant-loop-symbol : goal.invariant-loop-symbol
+invariant-loop-symbol l = before l.members (d.members_in (meanings_seen l.symbols)) ≡ d.members_in (meanings_seen l.initial.symbols)
+
+abbrev pub decreases-loop-symbol : goal.decreases-loop-symbol
+decreases-loop-symbol l = length l.symbols

@@ -1,0 +1,4 @@
+pub mod Beginnings
+pub mod Found
+pub mod Meanings
+pub mod RightSides
