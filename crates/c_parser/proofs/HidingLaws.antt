@@ -1,6 +1,6 @@
 -- What the table tells is what the list of declared names says.
-use Rattle.std.proofs.Common.{◌≡◌, ℕ, zero, suc, ◌+◌, ◌-◌, ◌<◌, Bool, true, false, cond, List, [], ◌∷◌, ◌++◌, map, length, take, drop, refl, ap, sym, subst, ◌∙◌, ◌≤◌, arith, eqb-true, nat_eq, Some, None, slice_get, append_assoc, append-nil}
-use Rattle.std.specs.Prelude.{get_or, set, replicate, reverse, fold, option_to_list}
+use Rattle.std.proofs.Common.{◌≡◌, ℕ, zero, suc, ◌+◌, ◌<◌, Bool, true, false, cond, List, [], ◌∷◌, ◌++◌, map, length, drop, refl, ap, sym, subst, ◌∙◌, arith, eqb-true, nat_eq, Some, slice_get, append_assoc}
+use Rattle.std.specs.Prelude.{get_or, set, replicate, reverse, fold}
 use Rattle.std.proofs.lemmas.Bool.{eq-eqb}
 use Rattle.std.proofs.lemmas.Option.{get_or_from_slice_get, slice_get_read}
 use Rattle.std.proofs.lemmas.List.{map-append, length-append, reverse-append, get_or-set_same, get_or-set_other, set-get_or, set-append_left}

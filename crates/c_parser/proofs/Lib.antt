@@ -7,3 +7,6 @@ pub mod RankLaws
 pub mod TerminalLaws
 pub mod DepthPlaces
 pub mod HidingLaws
+mod PutValues
+mod UnitValues
+mod CallValues

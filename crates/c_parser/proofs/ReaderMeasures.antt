@@ -3,7 +3,8 @@ use Rattle.std.proofs.Common.{◌≡◌, ℕ, ◌+◌, ◌*◌, ◌<◌, ◌≤�
 use Rattle.c_model.specs.declared.grammar.Rule.{Rule}
 use Rattle.c_model.specs.declared.grammar.Test.{Test}
 use Rattle.c_model.specs.declared.grammar.Terminal.{Terminal}
-use Rattle.c_model.specs.declared.grammar.Tree.{Tree}
+use Rattle.c_model.specs.declared.tokens.CTok.{CTok}
+use Rattle.c_model.specs.SyntaxValues.{Value}
 use Rattle.c_model.specs.GrammarForm.{Form, rule, ◌then◌, ◌or◌, maybe, many, when, loop}
 use Rattle.c_model.specs.NameScopes.{Scopes}
 use Rattle.c_model.specs.LeftWeights.{weight, IsWalkable}
@@ -20,7 +21,7 @@ into_rule m t r h = let a = falls_rule m (m * 256 + weight (rule r)) r (omega ar
 pub into_first : (m t : ℕ) (f g : Form) → t ≡ 4 * (m * 256 + weight (f then g)) + 2 → 4 * (m * 256 + weight f) + 2 < t
 into_first m t f g h = let a = falls_first m (m * 256 + weight (f then g)) f g (omega arith) in omega (arith, h, a)
 
-pub into_second : (t : ℕ) (f g : Form) (context : Context) (s : Scopes) (ts : List Terminal) (h : Heights) (mid : Reader) (before later : List Tree) → IsWalkable (f then g) → Read f context s ts h mid before later → t ≡ 4 * (length ts * 256 + weight (f then g)) + 2 → 4 * (length mid.rest.now * 256 + weight g) + 2 < t
+pub into_second : {tokens : List CTok} (t : ℕ) (f g : Form) (context : Context) (s : Scopes) (ts : List Terminal) (h : Heights) (mid : Reader) (before later : List Value) → IsWalkable (f then g) → Read tokens f context s ts h mid before later → t ≡ 4 * (length ts * 256 + weight (f then g)) + 2 → 4 * (length mid.rest.now * 256 + weight g) + 2 < t
 into_second t f g context s ts h mid before later c p e = let a = falls_second (length ts) (length mid.rest.now) (length ts * 256 + weight (f then g)) f g c p.reads refl refl (omega arith) in omega (arith, e, a)
 
 pub into_or : (m t : ℕ) (f g : Form) → t ≡ 4 * (m * 256 + weight (f or g)) + 2 → (4 * (m * 256 + weight f) + 2 < t) × (4 * (m * 256 + weight g) + 2 < t)

@@ -1,9 +1,11 @@
 -- What one more turn of a repeated form shows, and what all turns show.
-use Rattle.std.proofs.Common.{◌≡◌, ℕ, ◌<◌, ◌≤◌, Bool, true, false, not, List, [], ◌++◌, length, refl, ap, sym, subst, ◌∙◌, arith, append_assoc, append-nil, Err}
+use Rattle.std.proofs.Common.{◌≡◌, ℕ, ◌<◌, ◌≤◌, Bool, true, false, not, List, [], ◌++◌, length, refl, ap, sym, subst, ◌∙◌, arith, append_assoc, Err}
 use Rattle.std.specs.Prelude.{if◌then◌else◌}
 use Rattle.c_model.specs.declared.grammar.Test.{Test}
 use Rattle.c_model.specs.declared.grammar.Terminal.{Terminal}
 use Rattle.c_model.specs.declared.grammar.Tree.{Tree}
+use Rattle.c_model.specs.declared.tokens.CTok.{CTok}
+use Rattle.c_model.specs.SyntaxValues.{Value}
 use Rattle.c_model.specs.GrammarForm.{Form, many, loop, mem}
 use Rattle.c_model.specs.NameScopes.{Scopes}
 use Rattle.c_model.specs.DecidedTable.{first}
@@ -22,6 +24,8 @@ use Rattle.c_parser.specs.declared.reader.Stop.{Stop}
 use Rattle.c_parser.specs.declared.reader.Stop.TheVariants as stop
 use Rattle.c_parser.specs.Counting.{Counts, Stands}
 use Rattle.c_parser.specs.Reading.{Read, Told, ReadTurn, ToldTurn}
+use Rattle.c_parser.specs.TreeValues.{built}
+use Rattle.c_parser.proofs.PutValues.{put_more, put_none, put_nothing}
 use Rattle.c_parser.proofs.ReaderSteps.{both_shallow, later_deep}
 
 -- ---- one turn
@@ -34,16 +38,16 @@ pub unless_not : (b : Bool) → not b ≡ false → b ≡ true
 unless_not true e = refl
 unless_not false e = absurd (cc)
 
-stands_inside : (context inner : Context) (h start : Heights) (n : ℕ) (p : Piece) → inner ≡ record { parts = context.parts; chain = false } → ((p : Piece) → Counts h p → Counts start (behind p.ending nothing_read)) → Stands context h n p → Stands inner start n (behind p.ending nothing_read)
+stands_inside : (context inner : Context) (h start : Heights) (n : ℕ) (p : Piece) → inner ≡ record { parts = context.parts; chain = false; builds = context.builds } → ((p : Piece) → Counts h p → Counts start (behind p.ending nothing_read)) → Stands context h n p → Stands inner start n (behind p.ending nothing_read)
 stands_inside context inner h start n p e i s = record { parts = ap (λ z. z.parts) e ∙ s.parts; heights = i p s.heights; shallow = tt }
 
 -- where the form is a chain
-pub chain_turn : (f : Form) (context inner : Context) (old new : Reader) (start later_heights : Heights) (before later : List Tree) → context.chain ≡ true → inner ≡ record { parts = context.parts; chain = false }
-    → ((p : Piece) → Counts old.heights p → Counts start (behind p.ending nothing_read)) → Read f inner old.names old.rest.now start new before later
-    → ((p x : Piece) → Counts old.heights p → Counts new.heights (behind p.ending x) → Counts later_heights (chained p x)) → ReadTurn f context old (record { rest = new.rest; names = new.names; heights = later_heights }) before later
-chain_turn f context inner old new start later_heights before later e k i a c = record {
+pub chain_turn : {tokens : List CTok} (f : Form) (context inner : Context) (old new : Reader) (start later_heights : Heights) (before later : List Value) → context.chain ≡ true → inner ≡ record { parts = context.parts; chain = false; builds = context.builds }
+    → ((p : Piece) → Counts old.heights p → Counts start (behind p.ending nothing_read)) → Read tokens f inner old.names old.rest.now start new before later
+    → ((p x : Piece) → Counts old.heights p → Counts new.heights (behind p.ending x) → Counts later_heights (chained p x)) → ReadTurn tokens f context old (record { rest = new.rest; names = new.names; heights = later_heights }) before later
+chain_turn {tokens} f context inner old new start later_heights before later e k i a c = record {
   trees = a.trees;
-  put = a.put;
+  put = a.put ∙ ap (λ z. before ++ built z.builds tokens a.trees) k;
   reads = a.reads;
   kept = λ n p s.
       let d = derivation tables parsed a.reads in
@@ -53,9 +57,9 @@ chain_turn f context inner old new start later_heights before later e k i a c = 
       subst (λ z. Stands context later_heights n z) (a_chain context.chain (chained p x) _ e) (record { parts = s.parts; heights = c p x s.heights y.heights; shallow = both_shallow p.marks _ s.shallow y.shallow });
 }
 
-pub chain_stops : (f : Form) (context inner : Context) (old new : Reader) (start : Heights) (before later : List Tree) (x : Stop) → context.chain ≡ true → inner ≡ record { parts = context.parts; chain = false }
-    → ((p : Piece) → Counts old.heights p → Counts start (behind p.ending nothing_read)) → Told f inner (record { rest = old.rest; names = old.names; heights = start }) new before later (Err x) → ToldTurn f context old new before later (Err x)
-chain_stops f context inner old new start before later stop.Fault e k i a = record {
+pub chain_stops : (tokens : List CTok) (f : Form) (context inner : Context) (old new : Reader) (start : Heights) (before later : List Value) (x : Stop) → context.chain ≡ true → inner ≡ record { parts = context.parts; chain = false; builds = context.builds }
+    → ((p : Piece) → Counts old.heights p → Counts start (behind p.ending nothing_read)) → Told tokens f inner (record { rest = old.rest; names = old.names; heights = start }) new before later (Err x) → ToldTurn tokens f context old new before later (Err x)
+chain_stops tokens f context inner old new start before later stop.Fault e k i a = record {
   fails = a.fails;
   shallow = λ n p s.
       let d = front tables parsed a.fails in
@@ -63,7 +67,7 @@ chain_stops f context inner old new start before later stop.Fault e k i a = reco
       let y = subst (λ v. AreShallow v.marks) w (a.shallow _ _ (stands_inside context inner old.heights start n p k i s)) in
       subst (λ z. AreShallow z.marks) (a_chain context.chain (joined p (grown_so_far parsed false n d nothing_read)) _ e) (both_shallow p.marks _ s.shallow y);
 }
-chain_stops f context inner old new start before later stop.Deep e k i a = record {
+chain_stops tokens f context inner old new start before later stop.Deep e k i a = record {
   token = a.token;
   more = a.more;
   next = a.next;
@@ -74,7 +78,7 @@ chain_stops f context inner old new start before later stop.Deep e k i a = recor
       let y = subst (λ v. EndsDeep v.marks) w (a.deep _ _ (stands_inside context inner old.heights start n p k i s)) in
       subst (λ z. EndsDeep z.marks) (a_chain context.chain (joined p (grown_so_far parsed false n d nothing_read)) _ e) (later_deep p.marks _ s.shallow y);
 }
-chain_stops f context inner old new start before later stop.Memory e k i a = tt
+chain_stops tokens f context inner old new start before later stop.Memory e k i a = tt
 
 -- ---- all turns
 
@@ -93,9 +97,9 @@ pub record MeetOn (w : Form) (context : Context) (old new : Reader) (after : ℕ
   pub whole : Meets tables parsed w old.names old.rest.now rest
   pub same : (n : ℕ) (p : Piece) → grown_so_far parsed context.chain n (front_with tables parsed whole) p ≡ grown_so_far parsed context.chain n (front_with tables parsed q) (after n p)
 
-pub record Turning (w : Form) (context : Context) (old new : Reader) (before later : List Tree) : Type 0 where
+pub record Turning (tokens : List CTok) (w : Form) (context : Context) (old new : Reader) (before later : List Value) : Type 0 where
   pub trees : List Tree
-  pub put : later ≡ before ++ trees
+  pub put : later ≡ before ++ built context.builds tokens trees
   pub shorter : length new.rest.now ≤ length old.rest.now
   pub after : ℕ → Piece → Piece
   pub kept : (n : ℕ) (p : Piece) → Stands context old.heights n p → Stands context new.heights n (after n p)
@@ -103,10 +107,10 @@ pub record Turning (w : Form) (context : Context) (old new : Reader) (before lat
   pub fails : (rest : List Terminal) (q : Fails tables parsed w new.names new.rest.now rest) → FailOn w context old new after rest q
   pub meets : (rest : List Terminal) (q : Meets tables parsed w new.names new.rest.now rest) → MeetOn w context old new after rest q
 
-pub no_turn : (w : Form) (context : Context) (before : List Tree) (r : Reader) → Turning w context r r before before
-no_turn w context before r = record {
+pub no_turn : {tokens : List CTok} (w : Form) (context : Context) (before : List Value) (r : Reader) → Turning tokens w context r r before before
+no_turn {tokens} w context before r = record {
   trees = [];
-  put = sym (append-nil before);
+  put = put_nothing context.builds tokens before;
   shorter = omega arith;
   after = λ n p. p;
   kept = λ n p s. s;
@@ -119,11 +123,11 @@ no_turn w context before r = record {
 abbrev turned : {f : Form} {s new : Scopes} {ts rest : List Terminal} {xs : List Tree} → Context → Reads tables parsed f s ts xs new rest → ℕ → Piece → Piece
 turned context q n p = if context.chain then chained p (grown parsed false n (derivation tables parsed q) nothing_read) else grown parsed false n (derivation tables parsed q) p
 
-pub one_turn : (f : Form) (context : Context) (old mid new : Reader) (before middle later : List Tree) → IsWalkable (many f) → Turning (many f) context old mid before middle → mem (ahead tables parsed mid.names mid.rest.now) (first tables f) ≡ true → ReadTurn f context mid new middle later → Turning (many f) context old new before later
+pub one_turn : {tokens : List CTok} (f : Form) (context : Context) (old mid new : Reader) (before middle later : List Value) → IsWalkable (many f) → Turning tokens (many f) context old mid before middle → mem (ahead tables parsed mid.names mid.rest.now) (first tables f) ≡ true → ReadTurn tokens f context mid new middle later → Turning tokens (many f) context old new before later
 unfolding grown grown_so_far derivation front front_with
-one_turn f context old mid new before middle later c t b a = record {
+one_turn {tokens} f context old mid new before middle later c t b a = record {
   trees = t.trees ++ a.trees;
-  put = rw (a.put, t.put) (append_assoc before t.trees a.trees);
+  put = put_more context.builds tokens before middle later t.trees a.trees t.put a.put;
   shorter = let l = many_moves f c a.reads in let m = t.shorter in omega (arith, l, m);
   after = λ n p. turned context a.reads n (t.after n p);
   kept = λ n p s. a.kept n (t.after n p) (t.kept n p s);
@@ -132,27 +136,27 @@ one_turn f context old mid new before middle later c t b a = record {
   meets = λ rest q. let r = t.meets rest (Meets.in_later b a.reads q) in record { whole = r.whole; same = λ n p. r.same n p };
 }
 
-pub turn_stops : (f : Form) (context : Context) (old mid new : Reader) (before middle later : List Tree) (e : Stop) → Turning (many f) context old mid before middle → mem (ahead tables parsed mid.names mid.rest.now) (first tables f) ≡ true → ToldTurn f context mid new middle later (Err e) → Told (many f) context old new before later (Err e)
+pub turn_stops : {tokens : List CTok} (f : Form) (context : Context) (old mid new : Reader) (before middle later : List Value) (e : Stop) → Turning tokens (many f) context old mid before middle → mem (ahead tables parsed mid.names mid.rest.now) (first tables f) ≡ true → ToldTurn tokens f context mid new middle later (Err e) → Told tokens (many f) context old new before later (Err e)
 unfolding grown_so_far front front_with
 turn_stops f context old mid new before middle later stop.Fault t b a = let r = t.fails _ (Fails.in_turn b a.fails) in record { fails = r.whole; shallow = λ n p s. subst (λ z. AreShallow z.marks) (sym (r.same n p)) (a.shallow n (t.after n p) (t.kept n p s)) }
 turn_stops f context old mid new before middle later stop.Deep t b a = let r = t.meets _ (Meets.in_turn b a.meets) in record { token = a.token; more = a.more; next = a.next; meets = r.whole; deep = λ n p s. subst (λ z. EndsDeep z.marks) (sym (r.same n p)) (a.deep n (t.after n p) (t.kept n p s)) }
 turn_stops f context old mid new before middle later stop.Memory t b a = tt
 
-pub no_more_turns : (f : Form) (context : Context) (old new : Reader) (before later : List Tree) → Turning (many f) context old new before later → mem (ahead tables parsed new.names new.rest.now) (first tables f) ≡ false → Read (many f) context old.names old.rest.now old.heights new before later
+pub no_more_turns : {tokens : List CTok} (f : Form) (context : Context) (old new : Reader) (before later : List Value) → Turning tokens (many f) context old new before later → mem (ahead tables parsed new.names new.rest.now) (first tables f) ≡ false → Read tokens (many f) context old.names old.rest.now old.heights new before later
 unfolding grown derivation
-no_more_turns f context old new before later t b = let r = t.reads [] _ _ (Reads.stop b) in record {
+no_more_turns {tokens} f context old new before later t b = let r = t.reads [] _ _ (Reads.stop b) in record {
   trees = r.trees;
-  put = t.put ∙ ap (λ z. before ++ z) (sym (r.split ∙ append-nil t.trees));
+  put = put_none context.builds tokens before later r.trees t.trees t.put r.split;
   reads = r.whole;
   kept = λ n p s. subst (λ z. Stands context new.heights n z) (sym (r.same n p)) (t.kept n p s);
 }
 
 -- likewise where a test decides
-pub one_again : (t : Test) (f : Form) (context : Context) (old mid new : Reader) (before middle later : List Tree) → IsWalkable (loop t f) → Turning (loop t f) context old mid before middle → passes t mid.names mid.rest.now ≡ true → ReadTurn f context mid new middle later → Turning (loop t f) context old new before later
+pub one_again : {tokens : List CTok} (t : Test) (f : Form) (context : Context) (old mid new : Reader) (before middle later : List Value) → IsWalkable (loop t f) → Turning tokens (loop t f) context old mid before middle → passes t mid.names mid.rest.now ≡ true → ReadTurn tokens f context mid new middle later → Turning tokens (loop t f) context old new before later
 unfolding grown grown_so_far derivation front front_with
-one_again v f context old mid new before middle later c t b a = record {
+one_again {tokens} v f context old mid new before middle later c t b a = record {
   trees = t.trees ++ a.trees;
-  put = rw (a.put, t.put) (append_assoc before t.trees a.trees);
+  put = put_more context.builds tokens before middle later t.trees a.trees t.put a.put;
   shorter = let l = loop_moves v f c a.reads in let m = t.shorter in omega (arith, l, m);
   after = λ n p. turned context a.reads n (t.after n p);
   kept = λ n p s. a.kept n (t.after n p) (t.kept n p s);
@@ -161,23 +165,23 @@ one_again v f context old mid new before middle later c t b a = record {
   meets = λ rest q. let r = t.meets rest (Meets.in_further b a.reads q) in record { whole = r.whole; same = λ n p. r.same n p };
 }
 
-pub again_stops : (t : Test) (f : Form) (context : Context) (old mid new : Reader) (before middle later : List Tree) (e : Stop) → Turning (loop t f) context old mid before middle → passes t mid.names mid.rest.now ≡ true → ToldTurn f context mid new middle later (Err e) → Told (loop t f) context old new before later (Err e)
+pub again_stops : {tokens : List CTok} (t : Test) (f : Form) (context : Context) (old mid new : Reader) (before middle later : List Value) (e : Stop) → Turning tokens (loop t f) context old mid before middle → passes t mid.names mid.rest.now ≡ true → ToldTurn tokens f context mid new middle later (Err e) → Told tokens (loop t f) context old new before later (Err e)
 unfolding grown_so_far front front_with
 again_stops v f context old mid new before middle later stop.Fault t b a = let r = t.fails _ (Fails.in_again b a.fails) in record { fails = r.whole; shallow = λ n p s. subst (λ z. AreShallow z.marks) (sym (r.same n p)) (a.shallow n (t.after n p) (t.kept n p s)) }
 again_stops v f context old mid new before middle later stop.Deep t b a = let r = t.meets _ (Meets.in_again b a.meets) in record { token = a.token; more = a.more; next = a.next; meets = r.whole; deep = λ n p s. subst (λ z. EndsDeep z.marks) (sym (r.same n p)) (a.deep n (t.after n p) (t.kept n p s)) }
 again_stops v f context old mid new before middle later stop.Memory t b a = tt
 
-pub done_again : (t : Test) (f : Form) (context : Context) (old new : Reader) (before later : List Tree) → Turning (loop t f) context old new before later → passes t new.names new.rest.now ≡ false → Read (loop t f) context old.names old.rest.now old.heights new before later
+pub done_again : {tokens : List CTok} (t : Test) (f : Form) (context : Context) (old new : Reader) (before later : List Value) → Turning tokens (loop t f) context old new before later → passes t new.names new.rest.now ≡ false → Read tokens (loop t f) context old.names old.rest.now old.heights new before later
 unfolding grown derivation
-done_again v f context old new before later t b = let r = t.reads [] _ _ (Reads.done b) in record {
+done_again {tokens} v f context old new before later t b = let r = t.reads [] _ _ (Reads.done b) in record {
   trees = r.trees;
-  put = t.put ∙ ap (λ z. before ++ z) (sym (r.split ∙ append-nil t.trees));
+  put = put_none context.builds tokens before later r.trees t.trees t.put r.split;
   reads = r.whole;
   kept = λ n p s. subst (λ z. Stands context new.heights n z) (sym (r.same n p)) (t.kept n p s);
 }
 
-pub turn_shortens : (f : Form) (context : Context) (old new : Reader) (before later : List Tree) → IsWalkable (many f) → ReadTurn f context old new before later → length new.rest.now < length old.rest.now
+pub turn_shortens : {tokens : List CTok} (f : Form) (context : Context) (old new : Reader) (before later : List Value) → IsWalkable (many f) → ReadTurn tokens f context old new before later → length new.rest.now < length old.rest.now
 turn_shortens f context old new before later c a = many_moves f c a.reads
 
-pub again_shortens : (t : Test) (f : Form) (context : Context) (old new : Reader) (before later : List Tree) → IsWalkable (loop t f) → ReadTurn f context old new before later → length new.rest.now < length old.rest.now
+pub again_shortens : {tokens : List CTok} (t : Test) (f : Form) (context : Context) (old new : Reader) (before later : List Value) → IsWalkable (loop t f) → ReadTurn tokens f context old new before later → length new.rest.now < length old.rest.now
 again_shortens t f context old new before later c a = loop_moves t f c a.reads

@@ -1,5 +1,5 @@
 -- What the public call answers of a list of tokens of C.
-use Rattle.std.specs.Prelude.{ℕ, ◌≡◌, List, slice_get, Option, Some, None, Result, Ok, Err}
+use Rattle.std.specs.Prelude.{ℕ, ◌≡◌, List, [], ◌∷◌, slice_get, Option, Some, None, Result, Ok, Err}
 use Rattle.cake_base.specs.declared.places.Place.{Place}
 use Rattle.cake_base.specs.declared.rules.Fault.{Fault}
 use Rattle.cake_base.specs.declared.rules.LimitHit.{LimitHit}
@@ -9,6 +9,9 @@ use Rattle.c_model.specs.declared.grammar.Tree.{Tree}
 use Rattle.c_model.specs.TerminalsOf.{terminals_of}
 use Rattle.c_parser.specs.declared.errors.ParseError.{ParseError}
 use Rattle.c_parser.specs.declared.errors.ParseError.TheVariants as parse_error
+use Rattle.c_model.specs.SyntaxActions.{tree_of}
+use Rattle.c_model.specs.SyntaxForms.{External}
+use Rattle.c_tree.specs.SyntaxTrees.{unit_of}
 use Rattle.c_model.specs.UnitSyntax.{IsUnit, IsFault, IsTooDeep}
 
 -- the place of a token, or the end of the list where there is none
@@ -30,8 +33,14 @@ pub record IsDepthLimit (tokens : List CTok) (hit : LimitHit) : Type 0 where
   pub deep : IsTooDeep (terminals_of tokens) at
   pub named : hit ≡ record { place = token.place; limit = record { number = 6 } }
 
-abbrev pub Answers : List CTok → Place → Result (List Tree) ParseError → Type 0
-Answers tokens end (Ok trees) = IsUnit (terminals_of tokens) trees
+-- the unit that the one tree of the tokens stands for
+pub record IsTree (tokens : List CTok) (externals : List External) : Type 0 where
+  pub tree : Tree
+  pub derived : IsUnit (terminals_of tokens) (tree ∷ [])
+  pub stands : tree_of tokens tree ≡ Some externals
+
+abbrev pub Answers : List CTok → Place → Result (List External) ParseError → Type 0
+Answers tokens end (Ok tree) = IsTree tokens (unit_of tree)
 Answers tokens end (Err (parse_error.Fault fault)) = IsSyntaxError tokens end fault
 Answers tokens end (Err (parse_error.Limit hit)) = IsDepthLimit tokens hit
 Answers tokens end (Err parse_error.NoMemory) = Unit {0}

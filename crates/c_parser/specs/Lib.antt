@@ -1,5 +1,6 @@
 pub mod View
 pub mod Counting
+pub mod TreeValues
 pub mod Reading
 pub mod Parsing
 pub mod Ranks

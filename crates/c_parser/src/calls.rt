@@ -8,11 +8,11 @@ ghost use Rattle.c_model.specs.UnitSyntax.{IsFault, IsTooDeep};
 use crate::errors::ParseError;
 use crate::terminals::terminals;
 use crate::unit::{Refusal, parse_terminals};
-use c_model::grammar::Tree;
 use c_tokens::CList;
+use c_tree::Tree;
 use cake_base::{Family, Fault, Limit, LimitHit, Place, Rule};
-use sqlite_items::Items;
 use std::alloc::Global;
+use syntax_actions::unit;
 
 /// The place of the token of this rank, or the end where there is none.
 fn place_at(toks: &CList, at: usize, end: Place) -> Place
@@ -49,19 +49,22 @@ fn depth_limit(toks: &CList, at: usize, end: Place) -> LimitHit
     }
 }
 
-/// The trees of a translation unit (ISO/IEC 9899:2024, 6.9), which are one.
+/// The tree of a translation unit (ISO/IEC 9899:2024, 6.9).
 ///
 /// `end` is the place behind the last token. `ParseError::Fault` is S01 at the first token with which no unit can go on,
 /// or at `end` where the tokens are the front of a unit and no unit. `ParseError::Limit` is M06 at the first token that
 /// lies in more than 1,000 parts, or just before which a part ended that is more than 1,000 high, where it stands before
 /// the first fault. `ParseError::NoMemory` comes for a list that no text gives, too: one with a word or a punctuator that
 /// has no number of the vocabulary, or with an identifier behind 4,294,967,296 tokens.
-pub fn parse(alloc: Global, toks: &CList, end: Place) -> Result<Items<Tree>, ParseError>
+pub fn parse(alloc: Global, toks: &CList, end: Place) -> Result<Tree, ParseError>
     ensures { Answers toks.now end result }
 {
     let tokens = terminals(alloc, toks)?;
-    match parse_terminals(alloc, tokens.as_slice()) {
-        Ok(trees) => Ok(trees),
+    match parse_terminals(alloc, toks, tokens.as_slice()) {
+        Ok(value) => match unit(alloc, value)? {
+            Some(tree) => Ok(tree),
+            None => unreachable!(),
+        },
         Err(Refusal::Memory) => Err(ParseError::NoMemory),
         Err(Refusal::Deep(at)) => Err(ParseError::Limit(depth_limit(toks, at, end))),
         Err(Refusal::Fault(at)) => Err(ParseError::Fault(syntax_error(toks, at, end))),

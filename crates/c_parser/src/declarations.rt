@@ -1,8 +1,8 @@
 //! The right sides of the productions of declarations (ISO/IEC 9899:2024, 6.7 and 6.9).
 
 use crate::forms::Form;
-use crate::kinds;
 use c_model::grammar::{Act, Rule, Test};
+use syntax_actions::kinds;
 
 /// Any kind but a bracket.
 const OTHERS: &[u8] = &[

@@ -27,6 +27,8 @@ pub struct Context {
     pub parts: usize,
     /// Whether the turns of the form are those of a chain.
     pub chain: bool,
+    /// Whether what is read is built.
+    pub builds: bool,
 }
 
 /// One more, as far as it counts.
@@ -98,12 +100,13 @@ impl Heights {
 
 impl Context {
     /// Where nothing is open.
-    pub fn outermost() -> Context
-        ensures { result ≡ record { parts = 0; chain = false } }
+    pub fn outermost(builds: bool) -> Context
+        ensures { result ≡ record { parts = 0; chain = false; builds = builds } }
     {
         Context {
             parts: 0,
             chain: false,
+            builds,
         }
     }
 
@@ -111,6 +114,7 @@ impl Context {
     pub fn inside(self, rule: Rule) -> Context
         ensures parts { (n : ℕ) → self.parts ≡ counted n → result.parts ≡ counted (depth.deeper (grammar.is_part rule) n) }
         ensures chain { result.chain ≡ depth.is_chain rule }
+        ensures builds { result.builds ≡ self.builds }
     {
         Context {
             parts: if is_part(rule) {
@@ -119,16 +123,18 @@ impl Context {
                 self.parts
             },
             chain: is_chain(rule),
+            builds: self.builds,
         }
     }
 
     /// In a turn of the form.
     pub fn turn(self) -> Context
-        ensures { result ≡ record { parts = self.parts; chain = false } }
+        ensures { result ≡ record { parts = self.parts; chain = false; builds = self.builds } }
     {
         Context {
             parts: self.parts,
             chain: false,
+            builds: self.builds,
         }
     }
 

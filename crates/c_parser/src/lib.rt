@@ -7,7 +7,6 @@ mod entries;
 mod errors;
 mod forms;
 mod heights;
-mod kinds;
 mod lookahead;
 mod names;
 mod ranks;

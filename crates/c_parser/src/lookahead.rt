@@ -6,10 +6,10 @@ ghost use Rattle.c_model.specs.SyntaxTree as tree;
 ghost use Rattle.c_model.specs.declared.grammar.Before.TheVariants as before;
 ghost use Rattle.c_model.specs.declared.grammar.Within.TheVariants as within;
 
-use crate::kinds;
 use crate::names::{Names, is_closing, is_opening};
 use crate::sets::may_begin;
 use c_model::grammar::{Before, Rule, Terminal, Test, Within};
+use syntax_actions::kinds;
 
 /// The first token, and those behind it.
 pub fn split(tokens: &[Terminal]) -> Option<(Terminal, &[Terminal])>

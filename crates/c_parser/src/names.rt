@@ -7,13 +7,13 @@ ghost use Rattle.c_model.specs.declared.grammar.Rule.TheVariants as rule;
 ghost use Rattle.c_model.specs.declared.grammar.Terminal.{Terminal};
 
 use crate::entries::Entries;
-use crate::kinds;
 use crate::stack::Stack;
 use c_model::grammar::{Act, Entry, Frame, Reading, Rule, Terminal};
 use sqlite_items::Items;
 use std::alloc::{AllocError, Global};
 use std::marker::Model;
 use std::mem;
+use syntax_actions::kinds;
 
 /// The scopes in which typedef names are told from other identifiers (ISO/IEC 9899:2024, 6.2.1 and 6.7.9).
 #[derive(Debug, Drop)]

@@ -1,6 +1,6 @@
 //! The reading of the parser's table.
 
-ghost use Rattle.std.specs.Prelude.{◌≡◌};
+ghost use Rattle.std.specs.Prelude.{◌≡◌, ◌++◌, OnOk, slice_get};
 ghost use Rattle.c_model.specs.GrammarForm as shape;
 ghost use Rattle.c_model.specs.GrammarForm.{mem, word, many, loop};
 ghost use Rattle.c_model.specs.DecidedTable as decided;
@@ -8,17 +8,24 @@ ghost use Rattle.c_model.specs.LeftWeights.{IsWalkable};
 ghost use Rattle.c_model.specs.ParserWalk as walk;
 ghost use Rattle.c_model.specs.ParserSets.{tables};
 ghost use Rattle.c_model.specs.ParserTests.{parsed};
+ghost use Rattle.c_model.specs.SyntaxActions.{node_value};
+ghost use Rattle.c_model.specs.SyntaxValues.{token_value};
 ghost use Rattle.c_parser.specs.View.{form};
 ghost use Rattle.c_parser.specs.Reading.{Told, ToldTurn};
+ghost use Rattle.c_parser.specs.TreeValues.{only_if};
+ghost use Rattle.syntax_actions.specs.Meanings.{values_seen};
 
 use crate::forms::{Form, body};
 use crate::heights::{Context, Heights};
 use crate::lookahead::{passes, split};
 use crate::names::Names;
 use crate::sets::{is_hollow, is_one, may_begin};
-use c_model::grammar::{Act, Rule, Terminal, Test, Tree};
+use c_model::grammar::{Act, Rule, Terminal, Test};
+use c_tokens::CList;
+use cake_base::NoMemory;
 use sqlite_items::Items;
 use std::alloc::{AllocError, Global};
+use syntax_actions::{Value, leaf, node};
 
 /// Why reading stopped.
 #[derive(Clone, Copy, Debug, PartialEq, Eq)]
@@ -38,6 +45,17 @@ impl From<AllocError> for Stop {
     ghost from_gives = { λ _ e. e ≡ Memory };
 
     fn from(_error: AllocError) -> Stop {
+        Stop::Memory
+    }
+}
+
+impl From<NoMemory> for Stop {
+    ghost use Rattle.std.specs.Prelude.{◌≡◌};
+    ghost use Rattle.c_parser.specs.declared.reader.Stop.TheVariants.{Memory};
+
+    ghost from_gives = { λ _ e. e ≡ Memory };
+
+    fn from(_error: NoMemory) -> Stop {
         Stop::Memory
     }
 }
@@ -63,14 +81,18 @@ impl<'a> Reader<'a> {
     }
 
     /// Reads a token of one of the kinds.
-    fn word(
+    ///
+    /// It isn't inlined, so that its values don't stand on the stack of the recursion.
+    #[inline(never)]
+    fn word<'t>(
         &mut self,
+        tokens: &'t CList,
         kinds: &[u8],
         act: Act,
         context: Context,
-        out: &mut Items<Tree>,
+        out: &mut Items<Value<'t>>,
     ) -> Result<(), Stop>
-        ensures { Told (word kinds.now act) context self.old self.new out.old out.new result }
+        ensures { Told tokens.now (word kinds.now act) context self.old self.new (values_seen out.old) (values_seen out.new) result }
     {
         match split(self.rest) {
             None => Err(Stop::Fault),
@@ -84,7 +106,7 @@ impl<'a> Reader<'a> {
                 self.names.after(act, token)?;
                 self.rest = rest;
                 self.heights = self.heights.behind_token();
-                out.push(Tree::Leaf(token))?;
+                put_leaf(tokens, token.rank, context.builds, out)?;
                 Ok(())
             }
         }
@@ -135,133 +157,181 @@ fn goes_left(f: &Form, g: &Form, ahead: u8) -> bool
     begins(f, ahead) || nullable(f) && !begins(g, ahead)
 }
 
-/// Reads what the nonterminal derives, and puts its tree behind the others.
-#[cycle(read)]
-fn read_rule(
+/// Puts what the token of this rank stands for behind the others, where that is built.
+fn put_leaf<'t>(
+    tokens: &'t CList,
+    rank: usize,
+    builds: bool,
+    out: &mut Items<Value<'t>>,
+) -> Result<(), NoMemory>
+    ensures { OnOk result (values_seen out.new ≡ values_seen out.old ++ only_if builds (token_value (slice_get tokens.now rank))) }
+{
+    if builds {
+        let made = leaf(tokens, rank)?;
+        out.push(made)?;
+    }
+    Ok(())
+}
+
+/// Puts what the production makes of the symbols behind the others, where that is built.
+///
+/// It isn't inlined, so that its values don't stand on the stack of the recursion.
+#[inline(never)]
+fn put_node<'t>(
     alloc: Global,
+    rule: Rule,
+    symbols: Items<Value<'t>>,
+    builds: bool,
+    out: &mut Items<Value<'t>>,
+) -> Result<(), NoMemory>
+    ensures { OnOk result (values_seen out.new ≡ values_seen out.old ++ only_if builds (node_value rule (values_seen symbols.entry))) }
+{
+    if builds {
+        let made = node(alloc, rule, symbols)?;
+        out.push(made)?;
+    }
+    Ok(())
+}
+
+/// Reads what the nonterminal derives, and puts what its tree stands for behind the others, where that is built.
+#[cycle(read)]
+fn read_rule<'t>(
+    alloc: Global,
+    tokens: &'t CList,
     reader: &mut Reader<'_>,
     rule: Rule,
     context: Context,
-    out: &mut Items<Tree>,
+    out: &mut Items<Value<'t>>,
 ) -> Result<(), Stop>
-    ensures { Told (shape.rule rule) context reader.old reader.new out.old out.new result }
+    ensures { Told tokens.now (shape.rule rule) context reader.old reader.new (values_seen out.old) (values_seen out.new) result }
 {
     let outer = reader.heights;
     reader.heights = outer.inside();
     let mut inner = Items::new(alloc);
-    read(alloc, reader, body(rule), context.inside(rule), &mut inner)?;
+    read(
+        alloc,
+        tokens,
+        reader,
+        body(rule),
+        context.inside(rule),
+        &mut inner,
+    )?;
     reader.heights = reader.heights.behind_rule(rule, outer);
     reader.names.close(rule)?;
-    out.push(Tree::Node(rule, inner))?;
+    put_node(alloc, rule, inner, context.builds, out)?;
     Ok(())
 }
 
 /// Reads the form once more.
 #[cycle(read)]
-fn read_turn(
+fn read_turn<'t>(
     alloc: Global,
+    tokens: &'t CList,
     reader: &mut Reader<'_>,
     f: &Form,
     context: Context,
-    out: &mut Items<Tree>,
+    out: &mut Items<Value<'t>>,
 ) -> Result<(), Stop>
     requires { IsWalkable (form f.now) }
-    ensures { ToldTurn (form f.now) context reader.old reader.new out.old out.new result }
+    ensures { ToldTurn tokens.now (form f.now) context reader.old reader.new (values_seen out.old) (values_seen out.new) result }
 {
     if !context.chain {
-        return read(alloc, reader, f, context, out);
+        return read(alloc, tokens, reader, f, context, out);
     }
     let inner = context.turn();
     let outer = reader.heights;
     reader.heights = outer.inside();
-    read(alloc, reader, f, inner, out)?;
+    read(alloc, tokens, reader, f, inner, out)?;
     reader.heights = reader.heights.behind_turn(outer);
     Ok(())
 }
 
 /// Reads the form as often as it begins with what comes next.
 #[cycle(read)]
-fn read_many(
+fn read_many<'t>(
     alloc: Global,
+    tokens: &'t CList,
     reader: &mut Reader<'_>,
     f: &Form,
     context: Context,
-    out: &mut Items<Tree>,
+    out: &mut Items<Value<'t>>,
 ) -> Result<(), Stop>
     requires { IsWalkable (many (form f.now)) }
-    ensures { Told (many (form f.now)) context reader.old reader.new out.old out.new result }
+    ensures { Told tokens.now (many (form f.now)) context reader.old reader.new (values_seen out.old) (values_seen out.new) result }
 {
     while begins(f, reader.ahead()) {
-        read_turn(alloc, reader, f, context, out)?;
+        read_turn(alloc, tokens, reader, f, context, out)?;
     }
     Ok(())
 }
 
 /// Reads the form as often as the test holds.
 #[cycle(read)]
-fn read_loop(
+fn read_loop<'t>(
     alloc: Global,
+    tokens: &'t CList,
     reader: &mut Reader<'_>,
     test: Test,
     f: &Form,
     context: Context,
-    out: &mut Items<Tree>,
+    out: &mut Items<Value<'t>>,
 ) -> Result<(), Stop>
     requires { IsWalkable (loop test (form f.now)) }
-    ensures { Told (loop test (form f.now)) context reader.old reader.new out.old out.new result }
+    ensures { Told tokens.now (loop test (form f.now)) context reader.old reader.new (values_seen out.old) (values_seen out.new) result }
 {
     while passes(test, &reader.names, reader.rest) {
-        read_turn(alloc, reader, f, context, out)?;
+        read_turn(alloc, tokens, reader, f, context, out)?;
     }
     Ok(())
 }
 
-/// Reads what the form derives, and puts the trees behind the others.
+/// Reads what the form derives, and puts what its trees stand for behind the others, where that is built.
 ///
 /// It takes the choices of the table by the next token and by its tests, and reads each token once. It stops at the first
 /// token with which the table can't go on, or before it at the first that is met in too many parts: `reader.rest` begins
 /// with that token.
 #[cycle(read)]
-pub fn read(
+pub fn read<'t>(
     alloc: Global,
+    tokens: &'t CList,
     reader: &mut Reader<'_>,
     f: &Form,
     context: Context,
-    out: &mut Items<Tree>,
+    out: &mut Items<Value<'t>>,
 ) -> Result<(), Stop>
     requires { IsWalkable (form f.now) }
-    ensures { Told (form f.now) context reader.old reader.new out.old out.new result }
+    ensures { Told tokens.now (form f.now) context reader.old reader.new (values_seen out.old) (values_seen out.new) result }
 {
     match f {
-        Form::Word(kinds, act) => reader.word(kinds, *act, context, out),
-        Form::Rule(rule) => read_rule(alloc, reader, *rule, context, out),
+        Form::Word(kinds, act) => reader.word(tokens, kinds, *act, context, out),
+        Form::Rule(rule) => read_rule(alloc, tokens, reader, *rule, context, out),
         Form::Empty => Ok(()),
         Form::Then(f, g) => {
-            read(alloc, reader, f, context, out)?;
-            read(alloc, reader, g, context, out)
+            read(alloc, tokens, reader, f, context, out)?;
+            read(alloc, tokens, reader, g, context, out)
         }
         Form::Or(f, g) => {
             if goes_left(f, g, reader.ahead()) {
-                read(alloc, reader, f, context, out)
+                read(alloc, tokens, reader, f, context, out)
             } else {
-                read(alloc, reader, g, context, out)
+                read(alloc, tokens, reader, g, context, out)
             }
         }
         Form::Maybe(f) => {
             if begins(f, reader.ahead()) {
-                read(alloc, reader, f, context, out)
+                read(alloc, tokens, reader, f, context, out)
             } else {
                 Ok(())
             }
         }
-        Form::Many(f) => read_many(alloc, reader, f, context, out),
+        Form::Many(f) => read_many(alloc, tokens, reader, f, context, out),
         Form::When(test, f, g) => {
             if passes(*test, &reader.names, reader.rest) {
-                read(alloc, reader, f, context, out)
+                read(alloc, tokens, reader, f, context, out)
             } else {
-                read(alloc, reader, g, context, out)
+                read(alloc, tokens, reader, g, context, out)
             }
         }
-        Form::Loop(test, f) => read_loop(alloc, reader, *test, f, context, out),
+        Form::Loop(test, f) => read_loop(alloc, tokens, reader, *test, f, context, out),
     }
 }

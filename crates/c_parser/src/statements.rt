@@ -1,8 +1,8 @@
 //! The right sides of the productions of statements and expressions (ISO/IEC 9899:2024, 6.5 and 6.8).
 
 use crate::forms::Form;
-use crate::kinds;
 use c_model::grammar::{Act, Rule, Test};
+use syntax_actions::kinds;
 
 pub const BLOCK: &Form = &Form::Then(
     &Form::Word(&[kinds::OPEN_BRACE], Act::OpenBlock),

@@ -1,32 +1,16 @@
 //! The tokens of C as the grammar sees them.
 
-ghost use Rattle.std.specs.Prelude.{◌≡◌, ◌<◌, IfOk, MatchOption};
+ghost use Rattle.std.specs.Prelude.{◌≡◌, IfOk};
 ghost use Rattle.c_model.specs.TerminalsOf as spec;
 ghost use Rattle.c_parser.specs.Ranks.{number_behind, with_kind};
 
-use crate::kinds;
 use crate::ranks::Ranks;
 use c_model::grammar::Terminal;
 use c_tokens::{CKind, CList, CTok};
 use cake_base::NoMemory;
 use sqlite_items::Items;
 use std::alloc::Global;
-
-/// The number of the kind; none where it is no byte, as that of no word or punctuator is.
-fn kind_number(kind: &CKind) -> Option<u8>
-    ensures { MatchOption result (255 < spec.kind_number kind.now) (λ n. n ≡ spec.kind_number kind.now) }
-{
-    match kind {
-        CKind::Word(number) => u8::try_from(*number).ok(),
-        CKind::Name(_) => Some(kinds::NAME),
-        CKind::Integer(_) => Some(kinds::INTEGER),
-        CKind::Text(_) => Some(kinds::STRING_LITERAL),
-        CKind::Punct(number) => match u8::try_from(*number) {
-            Ok(number) => number.checked_add(kinds::VOLATILE),
-            Err(_) => None,
-        },
-    }
-}
+use syntax_actions::kind_number;
 
 /// The number of an identifier, which is the rank of the first token of its spelling, and 0 for another token.
 fn name_number<'a>(ranks: &mut Ranks<'a>, kind: &'a CKind, rank: usize) -> Result<u32, NoMemory>

@@ -1,14 +1,16 @@
 //! The parsing of a translation unit, given as the tokens that the grammar sees.
 
-ghost use Rattle.c_parser.specs.Parsing.{Parsed};
+ghost use Rattle.c_parser.specs.Parsing.{Parsed, UnitRead};
 
 use crate::forms::Form;
 use crate::heights::{Context, Heights};
 use crate::names::Names;
 use crate::reader::{Reader, Stop, read};
-use c_model::grammar::{Rule, Terminal, Tree};
+use c_model::grammar::{Rule, Terminal};
+use c_tokens::CList;
 use sqlite_items::Items;
 use std::alloc::Global;
+use syntax_actions::Value;
 
 /// Why there is no tree.
 #[derive(Clone, Copy, Debug, PartialEq, Eq)]
@@ -25,31 +27,59 @@ pub enum Refusal {
 
 const UNIT: &Form = &Form::Rule(Rule::Unit);
 
-/// The trees of a translation unit (ISO/IEC 9899:2024, 6.9), which are one, or why there is none.
-///
-/// The tree is one that the grammar derives, and the only one of the parser's table. The tokens before a fault begin a
-/// unit by the grammar, and no longer front does by the open table: the grammar, but that lists of type specifiers and
-/// the braces of `struct` and `enum` take what comes next, and `[` and `[` begin attributes where an array may follow.
-/// Parts are those of the derivation, and where there is none those of the walk to the fault.
-pub fn parse_terminals(alloc: Global, tokens: &[Terminal]) -> Result<Items<Tree>, Refusal>
-    ensures { Parsed tokens.now result }
+/// What is built of a translation unit, or why it is refused.
+fn read_unit<'t>(
+    alloc: Global,
+    toks: &'t CList,
+    tokens: &[Terminal],
+    builds: bool,
+) -> Result<Items<Value<'t>>, Refusal>
+    ensures { UnitRead toks.now tokens.now builds result }
 {
     let mut reader = Reader {
         rest: tokens,
         names: Names::new(alloc),
         heights: Heights::none(),
     };
-    let mut trees = Items::new(alloc);
-    match read(alloc, &mut reader, UNIT, Context::outermost(), &mut trees) {
+    let mut values = Items::new(alloc);
+    match read(
+        alloc,
+        toks,
+        &mut reader,
+        UNIT,
+        Context::outermost(builds),
+        &mut values,
+    ) {
         Ok(()) => {
-            if reader.rest.is_empty() {
-                Ok(trees)
-            } else {
-                Err(Refusal::Fault(tokens.len() - reader.rest.len()))
+            if !reader.rest.is_empty() {
+                return Err(Refusal::Fault(tokens.len() - reader.rest.len()));
             }
+            Ok(values)
         }
         Err(Stop::Fault) => Err(Refusal::Fault(tokens.len() - reader.rest.len())),
         Err(Stop::Memory) => Err(Refusal::Memory),
         Err(Stop::Deep) => Err(Refusal::Deep(tokens.len() - reader.rest.len())),
+    }
+}
+
+/// What the tree of a translation unit (ISO/IEC 9899:2024, 6.9) stands for, or why there is none.
+///
+/// `tokens` are those of `toks` as the grammar sees them.
+///
+/// The tree is that of the grammar's preferred derivation. The tokens before a fault begin a unit by the grammar, and no
+/// longer front does. Parts are those of the preferred derivation, and where there is none those of the walk to the fault.
+pub fn parse_terminals<'t>(
+    alloc: Global,
+    toks: &'t CList,
+    tokens: &[Terminal],
+) -> Result<Value<'t>, Refusal>
+    ensures { Parsed toks.now tokens.now result }
+{
+    // Nothing is built of a unit that is refused: what a chain of any length stands for is too deep to be dropped.
+    read_unit(alloc, toks, tokens, false)?;
+    let mut values = read_unit(alloc, toks, tokens, true)?;
+    match values.pop() {
+        Some(value) => Ok(value),
+        None => unreachable!(),
     }
 }

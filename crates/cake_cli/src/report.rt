@@ -140,8 +140,8 @@ fn report_tokens(
     ensures { IfOk result (ReportsTokens mode log.now tokens.now end) }
 {
     match parse(alloc, tokens, end) {
-        Ok(trees) => {
-            drop(trees);
+        Ok(tree) => {
+            drop(tree);
             report_tree(alloc, mode, log, tokens, end)
         }
         Err(ParseError::Fault(fault)) => refused(alloc, log, &fault),

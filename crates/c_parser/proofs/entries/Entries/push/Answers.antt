@@ -1,4 +1,4 @@
-use Rattle.std.proofs.Common.{◌≡◌, ◌∙◌, ap, sym, subst}
+use Rattle.std.proofs.Common.{sym, subst}
 use Rattle.std.specs.Prelude.{reverse, set}
 use Rattle.c_parser.specs.Hiding.{Tells}
 use Rattle.c_parser.proofs.HidingLaws.{wider, one_more, at_default}
