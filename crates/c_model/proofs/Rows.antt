@@ -3,31 +3,31 @@ use Rattle.std.proofs.Common.{◌≡◌, ℕ, ℤ, pos, Bool, true, false, List,
 use Rattle.std.specs.Prelude.{codes}
 use Rattle.std.specs.Fmt.{decimal}
 use Rattle.std.proofs.lemmas.Fmt.{decimal_digit}
-use Rattle.c_model.specs.declared.numbers.Basic.TheVariants.{Int}
-use Rattle.c_model.specs.declared.numbers.BinOp.TheVariants.{Mul, Add}
-use Rattle.c_model.specs.declared.tokens.CKind.TheVariants.{Word, Name, Punct}
-use Rattle.c_model.specs.declared.tokens.CTok.{CTok}
-use Rattle.c_model.specs.declared.tokens.PpKind.{PpKind}
-use Rattle.c_model.specs.declared.tokens.PpKind.TheVariants as pp_kind
-use Rattle.c_model.specs.declared.outcomes.Cause.TheVariants.{Overflow}
-use Rattle.c_model.specs.Memory.{Single, Number}
-use Rattle.c_model.specs.Run.{Returned, Undefined}
-use Rattle.c_model.specs.SourceRun.{run23}
-use Rattle.c_model.specs.TargetRun.{run89}
-use Rattle.c_model.specs.Operations.{fits}
-use Rattle.c_model.specs.Vocabulary.{word_number, punctuator_number, is_punctuator}
-use Rattle.c_model.specs.PpSteps.{step_at}
-use Rattle.c_model.specs.PpTokens.{PpToken, tokens_of}
-use Rattle.c_model.specs.CTokens.{converted, c_tokens_of}
+use Rattle.model_types.specs.declared.numbers.Basic.TheVariants.{Int}
+use Rattle.model_types.specs.declared.numbers.BinOp.TheVariants.{Mul, Add}
+use Rattle.model_tokens.specs.declared.tokens.CKind.TheVariants.{Word, Name, Punct}
+use Rattle.model_tokens.specs.declared.tokens.CTok.{CTok}
+use Rattle.model_tokens.specs.declared.tokens.PpKind.{PpKind}
+use Rattle.model_tokens.specs.declared.tokens.PpKind.TheVariants as pp_kind
+use Rattle.model_types.specs.declared.outcomes.Cause.TheVariants.{Overflow}
+use Rattle.model_runs.specs.Memory.{Single, Number}
+use Rattle.model_runs.specs.Run.{Returned, Undefined}
+use Rattle.model_runs.specs.SourceRun.{run23}
+use Rattle.model_c89.specs.TargetRun.{run89}
+use Rattle.model_types.specs.Operations.{fits}
+use Rattle.model_types.specs.Vocabulary.{word_number, punctuator_number, is_punctuator}
+use Rattle.model_tokens.specs.PpSteps.{step_at}
+use Rattle.model_tokens.specs.PpTokens.{PpToken, tokens_of}
+use Rattle.model_tokens.specs.CTokens.{converted, c_tokens_of}
 use Rattle.c_model.specs.FirstUnit.{IsUnit, spelled, head_words, IsConstant, IsSum, IsProduct, IsPrimary, one_product, added, one_primary, multiplied, constant, int_constant, int_operation}
-use Rattle.c_model.specs.Types89.{int_type}
-use Rattle.c_model.specs.Names89.{IsName}
-use Rattle.c_model.specs.Typing89.{Typed}
-use Rattle.c_model.specs.SpellingParts89.{declaration_text}
-use Rattle.c_model.specs.Spelling89.{outers_text, canonical}
-use Rattle.c_model.specs.Reading89.{Reads89}
+use Rattle.model_core.specs.Types89.{int_type}
+use Rattle.model_c89.specs.Names89.{IsName}
+use Rattle.model_c89.specs.Typing89.{Typed}
+use Rattle.model_c89.specs.SpellingParts89.{declaration_text}
+use Rattle.model_c89.specs.Spelling89.{outers_text, canonical}
+use Rattle.model_c89.specs.Reading89.{Reads89}
 use Rattle.c_model.specs.FirstRow.{at, token, number, seven_text, seven_tokens, seven_core, seven_program, seven_written, overflow_tokens, overflow_core}
-use Rattle.c_model.proofs.Spelled.{program_reads}
+use Rattle.model_c89.proofs.Spelled.{program_reads}
 
 -- the words before `return`
 abbrev head : List CTok

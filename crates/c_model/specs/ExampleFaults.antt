@@ -1,19 +1,19 @@
 -- Cores that aren't typed, each by one thing, some that are where it may be doubted, and C89 programs whose
 -- declarations don't agree.
 use Rattle.std.specs.Prelude.{ℕ, pos, true, false, List, [], ◌∷◌, codes, Option, Some, None}
-use Rattle.c_model.specs.declared.numbers.Basic.TheVariants.{Char, Int}
-use Rattle.c_model.specs.declared.numbers.BinOp.{BinOp}
-use Rattle.c_model.specs.declared.numbers.BinOp.TheVariants.{Add, Equal}
-use Rattle.c_model.specs.declared.operators.LogicOp.TheVariants.{And}
-use Rattle.c_model.specs.declared.marks.Origin.TheVariants.{Written, Implied}
-use Rattle.c_model.specs.Types.{CType, typed, Void, Integer, Array, Struct, Function as FunctionForm, types}
-use Rattle.c_model.specs.Structures.{Member, Structure}
-use Rattle.c_model.specs.CoreTypes.{int_type, plain, pointer_to}
-use Rattle.c_model.specs.Core.{Core, Expr, Constant, Address, Logic, Assign, Compound, Lvalue, Field, Deref, Initials, no_initials, more_initials, Stat, Parameter, Static, Declared, Text, DeclaredObject, no_stat, a_stat}
+use Rattle.model_types.specs.declared.numbers.Basic.TheVariants.{Char, Int}
+use Rattle.model_types.specs.declared.numbers.BinOp.{BinOp}
+use Rattle.model_types.specs.declared.numbers.BinOp.TheVariants.{Add, Equal}
+use Rattle.model_types.specs.declared.operators.LogicOp.TheVariants.{And}
+use Rattle.model_types.specs.declared.marks.Origin.TheVariants.{Written, Implied}
+use Rattle.model_types.specs.Types.{CType, typed, Void, Integer, Array, Struct, Function as FunctionForm, types}
+use Rattle.model_types.specs.Structures.{Member, Structure}
+use Rattle.model_core.specs.CoreTypes.{int_type, plain, pointer_to}
+use Rattle.model_core.specs.Core.{Core, Expr, Constant, Address, Logic, Assign, Compound, Lvalue, Field, Deref, Initials, no_initials, more_initials, Stat, Parameter, Static, Declared, Text, DeclaredObject, no_stat, a_stat}
 use Rattle.c_model.specs.ExampleParts.{nowhere, no_mark, number, int_variable, variable, load, binary, assigned, call, evaluate, block, return, function_type, automatic, stored_as, function, unit}
 use Rattle.c_model.specs.ExampleList.{is_const, size_type, int_void, implied}
-use Rattle.c_model.specs.Types89 as type89
-use Rattle.c_model.specs.Program89 as text
+use Rattle.model_core.specs.Types89 as type89
+use Rattle.model_core.specs.Program89 as text
 use Rattle.c_model.specs.FirstRow.{program_returning, int_number}
 
 -- a unit whose `main` does this with these objects
@@ -105,6 +105,17 @@ abbrev pub moved_null : Core
 moved_null =
     unit (static (pointer_to (plain (Integer Char))) (more_initials [] 0 (pointer_to (plain (Integer Char)))
     (binary Add (Constant (pos 0) (pointer_to (plain (Integer Char))) no_mark) (number 1)) no_initials) ∷ []) []
+
+-- int x = 5; and int a[2] = {5};
+abbrev pub one_value : Initials
+one_value = int_value_at [] 0 no_initials
+
+abbrev pub first_of_two : Initials
+first_of_two = int_value_at (0 ∷ []) 0 no_initials
+
+-- (char *)0, as `{}` gives it
+abbrev pub empty_pointer : Expr
+empty_pointer = Constant (pos 0) (pointer_to (plain (Integer Char))) no_mark
 
 -- types
 

@@ -1,16 +1,16 @@
 -- A unit that builds a list on the heap, prints it and frees it, as a core, with what its run has to be.
 use Rattle.std.specs.Prelude.{ℕ, pos, true, false, List, [], ◌∷◌, codes, Some}
-use Rattle.c_model.specs.declared.numbers.Basic.TheVariants.{Char, Int, UnsignedLong}
-use Rattle.c_model.specs.declared.numbers.BinOp.TheVariants.{LessEqual}
-use Rattle.c_model.specs.declared.operators.UnaryOp.TheVariants.{Not}
-use Rattle.c_model.specs.declared.marks.Origin.TheVariants.{Implied}
-use Rattle.c_model.specs.declared.types.Quals.{Quals}
-use Rattle.c_model.specs.declared.types.StructId.{StructId}
-use Rattle.c_model.specs.Types.{CType, typed, Void, Integer, Pointer, Array, Struct, Function as FunctionForm, types}
-use Rattle.c_model.specs.Structures.{Structure}
-use Rattle.c_model.specs.CoreTypes.{int_type, plain, no_quals}
-use Rattle.c_model.specs.Run.{Run, Event, Integer as IntegerArgument, StringAt, Took, Freed, Returned}
-use Rattle.c_model.specs.Core.{Core, Expr, Constant, Convert, Address, Unary, Lvalue, Arrow, Stat, If, While, For, no_expr, an_expr, no_stat, a_stat, Parameter, Text}
+use Rattle.model_types.specs.declared.numbers.Basic.TheVariants.{Char, Int, UnsignedLong}
+use Rattle.model_types.specs.declared.numbers.BinOp.TheVariants.{LessEqual}
+use Rattle.model_types.specs.declared.operators.UnaryOp.TheVariants.{Not}
+use Rattle.model_types.specs.declared.marks.Origin.TheVariants.{Implied}
+use Rattle.model_types.specs.declared.types.Quals.{Quals}
+use Rattle.model_types.specs.declared.types.StructId.{StructId}
+use Rattle.model_types.specs.Types.{CType, typed, Void, Integer, Pointer, Array, Struct, Function as FunctionForm, types}
+use Rattle.model_types.specs.Structures.{Structure}
+use Rattle.model_core.specs.CoreTypes.{int_type, plain, no_quals}
+use Rattle.model_runs.specs.Run.{Run, Event, Integer as IntegerArgument, StringAt, Took, Freed, Returned}
+use Rattle.model_core.specs.Core.{Core, Expr, Constant, Convert, Address, Unary, Lvalue, Arrow, Stat, If, While, For, no_expr, an_expr, no_stat, a_stat, Parameter, Text}
 use Rattle.c_model.specs.ExampleParts.{nowhere, no_mark, no_span, number, int_variable, variable, load, binary, assigned, call, increment, evaluate, start, block, return, function_type, automatic, stored_as, function, int_value}
 
 abbrev pub node_id : StructId

@@ -1,13 +1,13 @@
 -- Small blocks, and what is read of them and done with them.
 use Rattle.std.specs.Prelude.{ℕ, pos, true, false, [], ◌∷◌, codes, Some, None, Result, Ok, Err}
-use Rattle.c_model.specs.declared.numbers.Basic.TheVariants.{Char, Int}
-use Rattle.c_model.specs.declared.outcomes.Cause.{Cause}
-use Rattle.c_model.specs.Memory.{Numbered, Block, Global, Heap, Number, Address, Value, Single, Contents, Memory, fresh, zeroed}
-use Rattle.c_model.specs.Shapes.{Shape, IntegerShape}
-use Rattle.c_model.specs.Stores.{store}
-use Rattle.c_model.specs.Outside.{Passed, HandleAnswer, IntegerAnswer, call_outside}
-use Rattle.c_model.specs.SourceStart.{text_contents}
-use Rattle.c_model.specs.Run.{Run, Event, StringAt, HandleNumber, Act, ◌▷◌, run_of, start_with}
+use Rattle.model_types.specs.declared.numbers.Basic.TheVariants.{Char, Int}
+use Rattle.model_types.specs.declared.outcomes.Cause.{Cause}
+use Rattle.model_runs.specs.Memory.{Numbered, Block, Global, Heap, Number, Address, Value, Single, Contents, Memory, fresh, zeroed}
+use Rattle.model_types.specs.Shapes.{Shape, IntegerShape}
+use Rattle.model_runs.specs.Stores.{store}
+use Rattle.model_runs.specs.Outside.{Passed, HandleAnswer, IntegerAnswer, call_outside}
+use Rattle.model_runs.specs.SourceStart.{text_contents}
+use Rattle.model_runs.specs.Run.{Run, Event, StringAt, HandleNumber, Act, ◌▷◌, run_of, start_with}
 
 abbrev pub int_shape : Shape
 int_shape = IntegerShape Int

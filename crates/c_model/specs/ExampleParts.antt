@@ -1,16 +1,16 @@
 -- Short words for cores that are written by hand.
 use Rattle.std.specs.Prelude.{ℕ, pos, true, false, List, [], ◌∷◌, Some, None}
 use Rattle.cake_base.specs.declared.places.Place.{Place}
-use Rattle.c_model.specs.declared.numbers.BinOp.{BinOp}
-use Rattle.c_model.specs.declared.marks.Mark.{Mark}
-use Rattle.c_model.specs.declared.marks.Span.{Span}
-use Rattle.c_model.specs.declared.operators.StepOp.TheVariants.{Increment}
-use Rattle.c_model.specs.declared.operators.StepSide.TheVariants.{Postfix}
-use Rattle.c_model.specs.Types.{CType, Function as FunctionForm, types}
-use Rattle.c_model.specs.CoreTypes.{int_type, plain}
-use Rattle.c_model.specs.Memory.{Value, Single, Number}
-use Rattle.c_model.specs.Run.{Event, Integer as IntegerArgument}
-use Rattle.c_model.specs.Core.{Expr, Constant, Load, FunctionRef, Binary, Call, Assign, Plain, Step, Lvalue, Object, exprs, no_initials, more_initials, Stat, Evaluate, Start, Block, Return, an_expr, MaybeStat, stats, Storage, Automatic, Static, DeclaredObject, Function, Named, Core}
+use Rattle.model_types.specs.declared.numbers.BinOp.{BinOp}
+use Rattle.model_types.specs.declared.marks.Mark.{Mark}
+use Rattle.model_types.specs.declared.marks.Span.{Span}
+use Rattle.model_types.specs.declared.operators.StepOp.TheVariants.{Increment}
+use Rattle.model_types.specs.declared.operators.StepSide.TheVariants.{Postfix}
+use Rattle.model_types.specs.Types.{CType, Function as FunctionForm, types}
+use Rattle.model_core.specs.CoreTypes.{int_type, plain}
+use Rattle.model_runs.specs.Memory.{Value, Single, Number}
+use Rattle.model_runs.specs.Run.{Event, Integer as IntegerArgument}
+use Rattle.model_core.specs.Core.{Expr, Constant, Load, FunctionRef, Binary, Call, Assign, Plain, Step, Lvalue, Object, exprs, no_initials, more_initials, Stat, Evaluate, Start, Block, Return, an_expr, MaybeStat, stats, Storage, Automatic, Static, DeclaredObject, Function, Named, Core}
 
 -- a place on the first line
 abbrev pub at_column : (column order : ℕ) → Place

@@ -2,14 +2,14 @@
 -- thing that goes wrong is a store through the dead owner, and by two calls of `free` in a row.
 use Rattle.std.specs.Prelude.{ℕ, true, List, [], ◌∷◌, codes, Some, None}
 use Rattle.cake_base.specs.declared.places.Place.{Place}
-use Rattle.c_model.specs.declared.numbers.Basic.TheVariants.{Char}
-use Rattle.c_model.specs.declared.numbers.BinOp.TheVariants.{Less}
-use Rattle.c_model.specs.declared.operators.UnaryOp.TheVariants.{Not}
-use Rattle.c_model.specs.declared.outcomes.Cause.TheVariants.{Dead, BadRelease}
-use Rattle.c_model.specs.Types.{CType, typed, Integer, Pointer, Struct}
-use Rattle.c_model.specs.CoreTypes.{int_type, no_quals, plain}
-use Rattle.c_model.specs.Run.{Run, Took, Freed, Returned, Undefined}
-use Rattle.c_model.specs.Core.{Core, Call, FunctionRef, Assign, Plain, Unary, exprs, Lvalue, Object, Deref, Stat, If, For, no_expr, an_expr, no_stat, a_stat, DeclaredObject}
+use Rattle.model_types.specs.declared.numbers.Basic.TheVariants.{Char}
+use Rattle.model_types.specs.declared.numbers.BinOp.TheVariants.{Less}
+use Rattle.model_types.specs.declared.operators.UnaryOp.TheVariants.{Not}
+use Rattle.model_types.specs.declared.outcomes.Cause.TheVariants.{Dead, BadRelease}
+use Rattle.model_types.specs.Types.{CType, typed, Integer, Pointer, Struct}
+use Rattle.model_core.specs.CoreTypes.{int_type, no_quals, plain}
+use Rattle.model_runs.specs.Run.{Run, Took, Freed, Returned, Undefined}
+use Rattle.model_core.specs.Core.{Core, Call, FunctionRef, Assign, Plain, Unary, exprs, Lvalue, Object, Deref, Stat, If, For, no_expr, an_expr, no_stat, a_stat, DeclaredObject}
 use Rattle.c_model.specs.ExampleParts.{nowhere, mark_of, no_mark, no_span, number, int_variable, load, binary, increment, call, evaluate, start, block, return, function_type, automatic, function, unit, int_value}
 use Rattle.c_model.specs.ExampleList.{node_id, owner_or_null, void_owner, size_type, free_type, int_void, implied}
 

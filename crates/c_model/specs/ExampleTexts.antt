@@ -1,11 +1,11 @@
 -- C89 programs of a few lines, with what their runs have to be: a loop that writes bytes, and a node on the
 -- heap that is printed and freed.
 use Rattle.std.specs.Prelude.{ℕ, pos, true, false, List, [], ◌∷◌, codes, Some, None}
-use Rattle.c_model.specs.declared.numbers.BinOp.TheVariants.{Add, Less, Equal}
-use Rattle.c_model.specs.Types89.{Void, Char, UnsignedLong, Struct, Type89, Based, Pointer, Array, Function as FunctionType, no_types, more_types, int_type}
-use Rattle.c_model.specs.Run.{Run, Integer, StringAt, Took, Freed, Returned}
+use Rattle.model_types.specs.declared.numbers.BinOp.TheVariants.{Add, Less, Equal}
+use Rattle.model_core.specs.Types89.{Void, Char, UnsignedLong, Struct, Type89, Based, Pointer, Array, Function as FunctionType, no_types, more_types, int_type}
+use Rattle.model_runs.specs.Run.{Run, Integer, StringAt, Took, Freed, Returned}
 use Rattle.c_model.specs.ExampleParts.{int_value}
-use Rattle.c_model.specs.Program89 as text
+use Rattle.model_core.specs.Program89 as text
 
 abbrev pub stats : List text.Stat → text.Stats
 stats [] = text.no_stats

@@ -1,12 +1,12 @@
 -- Units of a few lines as cores, with what their runs have to be: defers, scopes, the order of operands,
 -- function literals and a value that isn't there.
 use Rattle.std.specs.Prelude.{ℕ, true, false, List, [], ◌∷◌, codes, Some}
-use Rattle.c_model.specs.declared.numbers.BinOp.TheVariants.{Mul, Add, Less, Equal}
-use Rattle.c_model.specs.declared.outcomes.Cause.TheVariants.{Uninitialised, NoValue}
-use Rattle.c_model.specs.Types.{CType}
-use Rattle.c_model.specs.CoreTypes.{int_type, pointer_to}
-use Rattle.c_model.specs.Run.{Run, Event, Returned, Undefined}
-use Rattle.c_model.specs.Core.{Core, Expr, Call, FunctionRef, Load, Choice, Object, exprs, Stat, Defer, If, Continue, For, no_expr, an_expr, no_stat, a_stat, Parameter, Lambda}
+use Rattle.model_types.specs.declared.numbers.BinOp.TheVariants.{Mul, Add, Less, Equal}
+use Rattle.model_types.specs.declared.outcomes.Cause.TheVariants.{Uninitialised, NoValue}
+use Rattle.model_types.specs.Types.{CType}
+use Rattle.model_core.specs.CoreTypes.{int_type, pointer_to}
+use Rattle.model_runs.specs.Run.{Run, Event, Returned, Undefined}
+use Rattle.model_core.specs.Core.{Core, Expr, Call, FunctionRef, Load, Choice, Object, exprs, Stat, Defer, If, Continue, For, no_expr, an_expr, no_stat, a_stat, Parameter, Lambda}
 use Rattle.c_model.specs.ExampleParts.{at_column, nowhere, mark_of, no_mark, no_span, number, int_variable, variable, load, binary, assigned, call, increment, evaluate, start, block, return, function_type, automatic, stored_as, global_int, function, unit, int_value, called_with}
 
 abbrev pub int_void : CType

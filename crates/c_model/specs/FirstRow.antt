@@ -1,16 +1,16 @@
 -- Two first units, worked by hand: their texts, tokens, cores and programs.
 use Rattle.std.specs.Prelude.{◌≡◌, ℕ, pos, true, false, List, [], ◌∷◌, ◌++◌, codes, None, refl}
 use Rattle.cake_base.specs.declared.places.Place.{Place}
-use Rattle.c_model.specs.declared.numbers.Basic.TheVariants.{Int}
-use Rattle.c_model.specs.declared.numbers.BinOp.TheVariants.{Mul, Add}
-use Rattle.c_model.specs.declared.tokens.CKind.{CKind}
-use Rattle.c_model.specs.declared.tokens.CKind.TheVariants.{Word, Name, Integer, Punct}
-use Rattle.c_model.specs.declared.tokens.CTok.{CTok}
-use Rattle.c_model.specs.Core.{Core}
-use Rattle.c_model.specs.Operations.{fits}
-use Rattle.c_model.specs.FirstUnit.{returning, int_constant, int_operation}
-use Rattle.c_model.specs.Types89.{Function, no_types, int_type}
-use Rattle.c_model.specs.Program89 as target
+use Rattle.model_types.specs.declared.numbers.Basic.TheVariants.{Int}
+use Rattle.model_types.specs.declared.numbers.BinOp.TheVariants.{Mul, Add}
+use Rattle.model_tokens.specs.declared.tokens.CKind.{CKind}
+use Rattle.model_tokens.specs.declared.tokens.CKind.TheVariants.{Word, Name, Integer, Punct}
+use Rattle.model_tokens.specs.declared.tokens.CTok.{CTok}
+use Rattle.model_core.specs.Core.{Core}
+use Rattle.model_types.specs.Operations.{fits}
+use Rattle.c_model.specs.FirstUnit.{UnitPlaces, returning, int_constant, int_operation}
+use Rattle.model_core.specs.Types89.{Function, no_types, int_type}
+use Rattle.model_core.specs.Program89 as target
 
 -- a place on the first line of the main file
 abbrev pub at : (column order : ℕ) → Place
@@ -32,6 +32,10 @@ front_tokens =
     token (Word 14) 1 0 ∷ token (Name (codes "main")) 5 1 ∷ token (Punct 3) 9 2 ∷ token (Word 11) 10 3 ∷ token (Punct 4) 14 4 ∷
     token (Punct 7) 16 5 ∷ token (Word 39) 18 6 ∷ []
 
+-- the places of such a unit, by that of its last brace
+abbrev pub places_to : (column order : ℕ) → UnitPlaces
+places_to column order = record { name = at 5 1; open_brace = at 16 5; return_ = at 18 6; close_brace = at column order }
+
 abbrev pub seven_tokens : List CTok
 seven_tokens =
     front_tokens
@@ -39,7 +43,7 @@ seven_tokens =
     token (Punct 2) 34 12 ∷ token (Punct 8) 36 13 ∷ [])
 
 abbrev pub seven_core : Core
-seven_core = returning (int_operation Add (int_constant (pos 1) (at 25 7)) (int_operation Mul (int_constant (pos 2) (at 29 9)) (int_constant (pos 3) (at 33 11)) (at 31 10)) (at 27 8)) (at 18 6)
+seven_core = returning (int_operation Add (int_constant (pos 1) (at 25 7)) (int_operation Mul (int_constant (pos 2) (at 29 9)) (int_constant (pos 3) (at 33 11)) (at 31 10)) (at 27 8)) (places_to 36 13)
 
 -- a program whose `main` returns this value
 abbrev pub program_returning : target.Expr → target.Program
@@ -75,4 +79,4 @@ overflow_tokens =
     ++ (number 2147483647 refl 25 7 ∷ token (Punct 38) 36 8 ∷ number 1 refl 38 9 ∷ token (Punct 2) 39 10 ∷ token (Punct 8) 41 11 ∷ [])
 
 abbrev pub overflow_core : Core
-overflow_core = returning (int_operation Add (int_constant (pos 2147483647) (at 25 7)) (int_constant (pos 1) (at 38 9)) (at 36 8)) (at 18 6)
+overflow_core = returning (int_operation Add (int_constant (pos 2147483647) (at 25 7)) (int_constant (pos 1) (at 38 9)) (at 36 8)) (places_to 41 11)

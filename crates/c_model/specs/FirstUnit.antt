@@ -2,20 +2,19 @@
 -- (ISO/IEC 9899:2024, 6.5.6, 6.5.7 and 6.9.2), and the token with which no such unit can go on.
 use Rattle.std.specs.Prelude.{◌≡◌, ℕ, zero, suc, ◌+◌, ◌<◌, ℤ, pos, true, false, if◌then◌else◌, List, [], ◌∷◌, ◌++◌, map, take, length, Result, Ok, codes}
 use Rattle.cake_base.specs.declared.places.Place.{Place}
-use Rattle.c_model.specs.declared.numbers.Basic.TheVariants.{Int}
-use Rattle.c_model.specs.declared.numbers.BinOp.{BinOp}
-use Rattle.c_model.specs.declared.numbers.BinOp.TheVariants.{Mul, Add, Sub}
-use Rattle.c_model.specs.declared.numbers.Const.{Const}
-use Rattle.c_model.specs.declared.marks.Mark.{Mark}
-use Rattle.c_model.specs.declared.marks.Span.{Span}
-use Rattle.c_model.specs.declared.tokens.CKind.{CKind}
-use Rattle.c_model.specs.declared.tokens.CKind.TheVariants.{Integer}
-use Rattle.c_model.specs.declared.tokens.CTok.{CTok}
-use Rattle.c_model.specs.declared.tokens.TokenRule.{TokenRule}
-use Rattle.c_model.specs.CoreTypes.{int_type, plain}
-use Rattle.c_model.specs.Types.{CType, Function as FunctionForm, no_types}
-use Rattle.c_model.specs.CTokens.{is_identifier, name_token, punctuator_token}
-use Rattle.c_model.specs.Core.{Expr, Constant, Binary, Return, Block, an_expr, a_stat, stats, Named, Core}
+use Rattle.model_types.specs.declared.numbers.Basic.TheVariants.{Int}
+use Rattle.model_types.specs.declared.numbers.BinOp.{BinOp}
+use Rattle.model_types.specs.declared.numbers.BinOp.TheVariants.{Mul, Add, Sub}
+use Rattle.model_types.specs.declared.numbers.Const.{Const}
+use Rattle.model_types.specs.declared.marks.Mark.{Mark}
+use Rattle.model_tokens.specs.declared.tokens.CKind.{CKind}
+use Rattle.model_tokens.specs.declared.tokens.CKind.TheVariants.{Integer}
+use Rattle.model_tokens.specs.declared.tokens.CTok.{CTok}
+use Rattle.model_tokens.specs.declared.tokens.TokenRule.{TokenRule}
+use Rattle.model_core.specs.CoreTypes.{int_type, plain}
+use Rattle.model_types.specs.Types.{CType, Function as FunctionForm, no_types}
+use Rattle.model_tokens.specs.CTokens.{is_identifier, name_token, punctuator_token}
+use Rattle.model_core.specs.Core.{Expr, Constant, Binary, Return, Block, an_expr, a_stat, stats, Named, Core}
 
 -- what a spelling of a word, a name or a punctuator is converted into
 unfoldable pub spelled : List ℕ → Result CKind TokenRule
@@ -34,9 +33,6 @@ pub record IsConstant (token : CTok) (number : ℕ) : Type 0 where
 -- the mark of an expression; these units have no rule that asks for its first tokens
 abbrev pub mark_at : Place → Mark
 mark_at place = record { at = place; first = place; outer = place }
-
-abbrev pub span_at : Place → Span
-span_at place = record { first = place; last = place }
 
 -- a constant of type int, and an operation on two values of it, at their places
 abbrev pub int_constant : ℤ → Place → Expr
@@ -70,9 +66,31 @@ mutual
 abbrev pub head_words : List (List ℕ)
 head_words = codes "int" ∷ codes "main" ∷ codes "(" ∷ codes "void" ∷ codes ")" ∷ codes "{" ∷ []
 
--- the core of a unit that returns this value; every place of it is that of `return`
-abbrev pub returning : Expr → Place → Core
-returning value place = record {
+-- the place of the token of a rank; behind the last one, that of the end
+abbrev pub token_place : List CTok → Place → ℕ → Place
+token_place [] end rank = end
+token_place (token ∷ tokens) end zero = token.place
+token_place (token ∷ tokens) end (suc rank) = token_place tokens end rank
+
+-- where the parts of such a unit stand: the name of its function, the braces, and the word `return`
+pub record UnitPlaces : Type 0 where
+  pub name : Place
+  pub open_brace : Place
+  pub return_ : Place
+  pub close_brace : Place
+
+-- the places of the tokens before the expression, in their order, and of the last one
+abbrev pub places_of : (head : List CTok) → (return_ brace : CTok) → UnitPlaces
+places_of head return_ brace = record {
+  name = token_place head return_.place 1;
+  open_brace = token_place head return_.place 5;
+  return_ = return_.place;
+  close_brace = brace.place;
+}
+
+-- a unit whose `main` returns this value
+abbrev pub returning : Expr → UnitPlaces → Core
+returning value places = record {
   objects = [];
   functions = record {
     id = 0;
@@ -80,12 +98,12 @@ returning value place = record {
     type = main_type;
     is_external = true;
     parameters = [];
-    body = a_stat (Block [] (stats (Return (an_expr value) place ∷ [])) (span_at place));
-    place = place;
-    joint_place = place;
+    body = a_stat (Block [] (stats (Return (an_expr value) places.return_ ∷ [])) (record { first = places.open_brace; last = places.close_brace }));
+    place = places.name;
+    joint_place = places.name;
   } ∷ [];
   structs = [];
-  named_types = [];
+  named_types = (places.name, main_type) ∷ [];
 }
 
 -- unit = "int" "main" "(" "void" ")" "{" "return" sum ";" "}"
@@ -102,7 +120,7 @@ pub record IsUnit (ts : List CTok) (core : Core) : Type 0 where
   pub sum_is : IsSum sum value
   pub semicolon_is : IsSpelled (codes ";") semicolon
   pub brace_is : IsSpelled (codes "}") brace
-  pub core_is : core ≡ returning value return_.place
+  pub core_is : core ≡ returning value (places_of head return_ brace)
 
 -- some unit begins with these tokens
 abbrev pub CanGoOn : List CTok → Type 0
@@ -118,9 +136,3 @@ pub data StopsFor (ts : List CTok) (rank : ℕ) : Type 0 where
 pub record StopsAt (ts : List CTok) (rank : ℕ) : Type 0 where
   pub before : CanGoOn (take rank ts)
   pub cause : StopsFor ts rank
-
--- the place of the token of a rank; behind the last one, that of the end
-abbrev pub token_place : List CTok → Place → ℕ → Place
-token_place [] end rank = end
-token_place (token ∷ tokens) end zero = token.place
-token_place (token ∷ tokens) end (suc rank) = token_place tokens end rank

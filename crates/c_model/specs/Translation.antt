@@ -1,17 +1,21 @@
 -- What a C89 program shares with the unit that it was written for.
-use Rattle.std.specs.Prelude.{◌≡◌, ◌⊎◌, ℕ, ℤ, true, false, List, [], ◌∷◌, Option, Some, IsTrue}
+use Rattle.std.specs.Prelude.{◌≡◌, ◌⊎◌, ◌<◌, ℕ, ℤ, true, false, List, [], ◌∷◌, length, Option, Some, IsTrue}
 use Rattle.cake_base.specs.declared.places.Place.{Place}
-use Rattle.c_model.specs.declared.outcomes.Cause.{Cause}
-use Rattle.c_model.specs.Operations.{fits}
-use Rattle.c_model.specs.Types.{CType, Form, Void, Integer, Enum, Function, Types, no_types, more_types, form_of_type}
-use Rattle.c_model.specs.Types89.{Type89}
-use Rattle.c_model.specs.Memory.{Value, Single, Number}
-use Rattle.c_model.specs.Run.{Run, Undefined}
-use Rattle.c_model.specs.Core as source
-use Rattle.c_model.specs.SourceRun.{run23}
-use Rattle.c_model.specs.Program89 as target
-use Rattle.c_model.specs.TargetRun.{run89}
+use Rattle.model_types.specs.declared.outcomes.Cause.{Cause}
+use Rattle.model_types.specs.declared.types.StructId.{StructId}
+use Rattle.model_types.specs.Operations.{fits}
+use Rattle.model_types.specs.Types.{CType, Form, Void, Integer, Enum, Function, Types, no_types, more_types, form_of_type}
+use Rattle.model_core.specs.Types89.{Type89}
+use Rattle.model_runs.specs.Memory.{Value, Single, Number}
+use Rattle.model_runs.specs.Run.{Run, Undefined}
+use Rattle.model_core.specs.Core as source
+use Rattle.model_runs.specs.SourceRun.{run23}
+use Rattle.model_core.specs.Program89 as target
+use Rattle.model_c89.specs.TargetRun.{run89}
 use Rattle.c_model.specs.WrittenType.{StructNames, written_type}
+use Rattle.c_model.specs.Seen.{SameBytes}
+use Rattle.c_model.specs.ExportedTypes.{Reaches, HasMembers}
+use Rattle.c_model.specs.ExportedObjects.{shared23, shared89, begins23, begins89}
 
 abbrev pub HasBody : source.MaybeStat → Type 0
 HasBody source.no_stat = ⊥
@@ -56,12 +60,21 @@ Agree names Defined Written =
     → ((type : CType) → Defined name type → Written name (written_type names type))
     × ((written : Type89) → Written name written → (type : CType) × Defined name type × (written ≡ written_type names type))
 
+-- an external function or object of this type
+abbrev pub IsExported : source.Core → CType → Type 0
+IsExported core type = (name : List ℕ) × (Defines23 core name type ⊎ Holds23 core name type)
+
 -- the program defines exactly the external functions and objects that the unit defines, under their names
--- and with their types
+-- and with their types; no two structures have one tag, and those that an exported type reaches have their
+-- members as the text writes them; and the objects begin with the same bytes, since another unit may read them
 pub record Exports (core : source.Core) (program : target.Program) : Type 0 where
   pub names : StructNames
   pub functions : Agree names (Defines23 core) (Defines89 program)
   pub objects : Agree names (Holds23 core) (Holds89 program)
+  pub tags : (id other : StructId) → id.0 < length core.structs → other.0 < length core.structs → names id ≡ names other → id ≡ other
+  pub members : (type : CType) (id : StructId) → IsExported core type → Reaches core.structs type id → HasMembers names core program id
+  pub values : (name : List ℕ) (type : CType) (held : Holds23 core name type) →
+      SameBytes (shared23 core) (shared89 program) (begins23 core held.object.id) (begins89 program name)
 
 -- a run without a meaning
 abbrev pub IsUndefined : Run → Type 0

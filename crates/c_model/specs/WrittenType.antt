@@ -1,9 +1,9 @@
 -- How the text writes a type of the unit (ISO/IEC 9899:1990, 6.1.2.5): long long as long, bool as unsigned
 -- char, an enumeration as its underlying type, const only behind pointers, and nothing of ownership.
 use Rattle.std.specs.Prelude.{ℕ, Bool, true, false, List}
-use Rattle.c_model.specs.declared.types.StructId.{StructId}
-use Rattle.c_model.specs.Types as source
-use Rattle.c_model.specs.Types89.{Void, Struct, base_of, Type89, Based, Pointer, Array, Function, Types89, no_types, more_types}
+use Rattle.model_types.specs.declared.types.StructId.{StructId}
+use Rattle.model_types.specs.Types as source
+use Rattle.model_core.specs.Types89.{Void, Struct, base_of, Type89, Based, Pointer, Array, Function, Types89, no_types, more_types}
 
 -- the names that a text gives the structures
 abbrev pub StructNames : Type 0

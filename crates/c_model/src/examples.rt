@@ -2,16 +2,16 @@
 //! what the run of a unit is.
 ghost use Rattle.std.specs.Prelude.{◌≡◌, true, false, pos, [], ◌∷◌, codes};
 ghost use Rattle.std.specs.List.{list_all};
-ghost use Rattle.c_model.specs.Memory.{Heap};
-ghost use Rattle.c_model.specs.SourceRun.{run23, ended23};
-ghost use Rattle.c_model.specs.TypedCore.{is_typed_core};
+ghost use Rattle.model_runs.specs.Memory.{Heap};
+ghost use Rattle.model_runs.specs.SourceRun.{run23, ended23};
+ghost use Rattle.model_core.specs.TypedCore.{is_typed_core};
 ghost use Rattle.c_model.specs.Examples.{loop_with_defer, written_by_loop, deferred_assignment, hidden_name, load_before_call, function_literal, no_value, without_value, returned, with_nothing, call_of_nothing, chosen_nothing, nothing_is_used};
-ghost use Rattle.c_model.specs.Typing89.{is_typed};
-ghost use Rattle.c_model.specs.TargetRun.{run89};
+ghost use Rattle.model_c89.specs.Typing89.{is_typed};
+ghost use Rattle.model_c89.specs.TargetRun.{run89};
 ghost use Rattle.c_model.specs.ExampleTexts.{writes_bytes, prints_node, printed};
 ghost use Rattle.c_model.specs.ExampleList.{list_of_nodes, with_memory, without_memory};
 ghost use Rattle.c_model.specs.ExampleReleases.{freed_in_loop, dead_in_loop, no_loop, freed_twice, released_twice, nothing_to_free, never_freed, asks_for_owner};
-ghost use Rattle.c_model.specs.Ownership.{Misuse, left_by, keeps_promise};
+ghost use Rattle.model_runs.specs.Ownership.{Misuse, left_by, keeps_promise};
 
 /// A deferred call runs at the end of each round, also where `continue` ends it.
 pub fn defers_run_in_each_round()

@@ -1,32 +1,19 @@
 //! Laws of the definitions: each function does nothing, and its contract is the law.
-ghost use Rattle.std.specs.Prelude.{◌≡◌, ℕ, ℤ, pos, List, [], Some, Ok, codes};
-ghost use Rattle.c_model.specs.Program89.{Program};
-ghost use Rattle.c_model.specs.Typing89.{Typed};
-ghost use Rattle.c_model.specs.Spelling89.{canonical};
-ghost use Rattle.c_model.specs.Reading89.{Reads89};
-ghost use Rattle.c_model.specs.Memory.{Single, Number};
-ghost use Rattle.c_model.specs.Run.{Returned, Undefined};
-ghost use Rattle.c_model.specs.SourceRun.{run23};
-ghost use Rattle.c_model.specs.TargetRun.{run89};
-ghost use Rattle.c_model.specs.Core.{Core};
-ghost use Rattle.c_model.specs.TypedCore.{TypedCore};
-ghost use Rattle.c_model.specs.declared.tokens.CTok.{CTok};
+ghost use Rattle.std.specs.Prelude.{◌≡◌, ℤ, pos, List, [], Some, Ok, codes};
+ghost use Rattle.model_c89.specs.Reading89.{Reads89};
+ghost use Rattle.model_runs.specs.Memory.{Single, Number};
+ghost use Rattle.model_runs.specs.Run.{Returned, Undefined};
+ghost use Rattle.model_runs.specs.SourceRun.{run23};
+ghost use Rattle.model_c89.specs.TargetRun.{run89};
+ghost use Rattle.model_core.specs.Core.{Core};
+ghost use Rattle.model_core.specs.TypedCore.{TypedCore};
+ghost use Rattle.model_tokens.specs.declared.tokens.CTok.{CTok};
 ghost use Rattle.c_model.specs.FirstUnit.{IsUnit};
-ghost use Rattle.c_model.specs.PpTokens.{PpToken, tokens_of};
-ghost use Rattle.c_model.specs.CTokens.{c_tokens_of};
+ghost use Rattle.model_tokens.specs.PpTokens.{PpToken, tokens_of};
+ghost use Rattle.model_tokens.specs.CTokens.{c_tokens_of};
 ghost use Rattle.c_model.specs.FirstRow.{at, seven_text, seven_tokens, seven_core, seven_program, seven_written, overflow_tokens, overflow_core};
 
-use crate::outcomes::Cause;
-
-/// What is spelled reads as the program that it is the spelling of.
-pub fn spelled_text_reads()
-    ensures { (program : Program) → Typed program → Reads89 (canonical program) program }
-{}
-
-/// What reads as a program is its one spelling.
-pub fn read_text_is_spelled()
-    ensures { (text : List ℕ) (program : Program) → Reads89 text program → canonical program ≡ text }
-{}
+use model_types::outcomes::Cause;
 
 /// The text of a first unit has its tokens.
 pub fn seven_is_converted()
@@ -58,9 +45,4 @@ pub fn first_unit_is_typed()
 pub fn overflow_is_undefined()
     ensures unit { IsUnit overflow_tokens overflow_core }
     ensures run { (world : List ℤ) → run23 1 overflow_core (codes "main") [] world ≡ record { events = []; moves = []; ending = Undefined Cause.Overflow (Some (at 36 8)) } }
-{}
-
-/// A text reads as one program at most.
-pub fn one_reading()
-    ensures { (text : List ℕ) (program other : Program) → Reads89 text program → Reads89 text other → program ≡ other }
 {}

@@ -1,16 +1,16 @@
 //! What is read of small blocks, which the checker computes: each function does nothing, and its
 //! contract is what loads and calls give.
 ghost use Rattle.std.specs.Prelude.{◌≡◌, ℤ, pos, negsuc, [], ◌∷◌, None, Ok, Err};
-ghost use Rattle.c_model.specs.declared.numbers.Basic.TheVariants as basic;
-ghost use Rattle.c_model.specs.declared.numbers.BinOp.TheVariants.{Add, Sub, Less, Equal};
-ghost use Rattle.c_model.specs.declared.outcomes.Cause.TheVariants as cause;
-ghost use Rattle.c_model.specs.Memory.{Heap, Number, Null, Address, Single, fresh, zeroed};
-ghost use Rattle.c_model.specs.Shapes.{IntegerShape, PointerShape};
-ghost use Rattle.c_model.specs.Loads.{load};
-ghost use Rattle.c_model.specs.Stores.{store};
-ghost use Rattle.c_model.specs.Applied.{applied};
-ghost use Rattle.c_model.specs.Run.{Returned, Undefined};
-ghost use Rattle.c_model.specs.SourceStart.{text_contents};
+ghost use Rattle.model_types.specs.declared.numbers.Basic.TheVariants as basic;
+ghost use Rattle.model_types.specs.declared.numbers.BinOp.TheVariants.{Add, Sub, Less, Equal};
+ghost use Rattle.model_types.specs.declared.outcomes.Cause.TheVariants as cause;
+ghost use Rattle.model_runs.specs.Memory.{Heap, Number, Null, Address, Single, fresh, zeroed};
+ghost use Rattle.model_types.specs.Shapes.{IntegerShape, PointerShape};
+ghost use Rattle.model_runs.specs.Loads.{load};
+ghost use Rattle.model_runs.specs.Stores.{store};
+ghost use Rattle.model_runs.specs.Applied.{applied};
+ghost use Rattle.model_runs.specs.Run.{Returned, Undefined};
+ghost use Rattle.model_runs.specs.SourceStart.{text_contents};
 ghost use Rattle.c_model.specs.ExampleMemory.{int_shape, char_shape, block, holding, number, with_five, zeros_with_seven, closed_once, closed_twice, opened, closed};
 
 /// A load wants what was stored there, of its size and kind, in a block that lives.

@@ -1,21 +1,24 @@
 //! What is asked of a typed core, by cores that aren't: each function does nothing, and its contract is
 //! what the definition answers.
 ghost use Rattle.std.specs.Prelude.{◌≡◌, true, false, [], ◌∷◌, None, codes};
-ghost use Rattle.c_model.specs.declared.numbers.Basic.TheVariants as basic;
-ghost use Rattle.c_model.specs.declared.numbers.BinOp.TheVariants.{Add, Mul, Less, Equal};
-ghost use Rattle.c_model.specs.declared.marks.Origin.TheVariants.{Written, Implied};
-ghost use Rattle.c_model.specs.Types.{typed, Void, Integer, Enum, Pointer, Array, Function, no_types, types};
-ghost use Rattle.c_model.specs.CoreTypes.{int_type, plain, pointer_to};
-ghost use Rattle.c_model.specs.Core.{Convert, no_initials};
+ghost use Rattle.model_types.specs.declared.numbers.Basic.TheVariants as basic;
+ghost use Rattle.model_types.specs.declared.numbers.BinOp.TheVariants.{Add, Mul, Less, Equal};
+ghost use Rattle.model_types.specs.declared.marks.Origin.TheVariants.{Written, Implied};
+ghost use Rattle.model_types.specs.Types.{typed, Void, Integer, Enum, Pointer, Array, Function, no_types, types};
+ghost use Rattle.model_core.specs.CoreTypes.{int_type, plain, pointer_to};
+ghost use Rattle.model_core.specs.Core.{Convert, no_initials};
 ghost use Rattle.c_model.specs.ExampleParts.{no_mark, number, int_variable, load, function_type};
 ghost use Rattle.c_model.specs.ExampleList.{implied};
-ghost use Rattle.c_model.specs.ExampleFaults.{array_of, const_int, one_number_twice, declared_again_inside, used_out_of_scope, parameter_without_object, address_not_noted, value_for_no_part, value_elsewhere, two_values_for_one_part, values_out_of_order, values_in_order, part_over_whole, whole_value, int_value_at, call_in_constant, moved_null, object_of, with_structure, structure_in_itself, declared_function, variadic_definition, string_without_room, internal_undefined, malloc_without_owner, defined_abort, const_member_inside, member_assigned, valued, pointer, compound, array_gains_const, array_in_its_initializer, outer89, function89, declaring89, main89, object89, returning89, outside89, f89, p89, v89, joined89, started89, char_pointer89, null89};
-ghost use Rattle.c_model.specs.TypedCore.{is_typed_core};
-ghost use Rattle.c_model.specs.Program89.{Plainly, Static, Extern, Binary, Cast, Call, Logic, no_exprs};
-ghost use Rattle.c_model.specs.declared.operators.LogicOp.TheVariants.{And};
-ghost use Rattle.c_model.specs.Types89 as type89;
+ghost use Rattle.c_model.specs.ExampleFaults.{array_of, const_int, one_number_twice, declared_again_inside, used_out_of_scope, parameter_without_object, address_not_noted, value_for_no_part, value_elsewhere, two_values_for_one_part, values_out_of_order, values_in_order, part_over_whole, whole_value, int_value_at, call_in_constant, moved_null, object_of, with_structure, structure_in_itself, declared_function, variadic_definition, string_without_room, internal_undefined, malloc_without_owner, defined_abort, const_member_inside, member_assigned, valued, pointer, compound, one_value, first_of_two, empty_pointer, array_gains_const, array_in_its_initializer, outer89, function89, declaring89, main89, object89, returning89, outside89, f89, p89, v89, joined89, started89, char_pointer89, null89};
+ghost use Rattle.model_core.specs.TypedCore.{is_typed_core};
+ghost use Rattle.model_core.specs.CoveredObjects.{Covers};
+ghost use Rattle.model_core.specs.SameTypes.{is_null_constant};
+ghost use Rattle.model_core.specs.StaticValues.{gives_null};
+ghost use Rattle.model_core.specs.Program89.{Plainly, Static, Extern, Binary, Cast, Call, Logic, no_exprs};
+ghost use Rattle.model_types.specs.declared.operators.LogicOp.TheVariants.{And};
+ghost use Rattle.model_core.specs.Types89 as type89;
 ghost use Rattle.c_model.specs.FirstRow.{int_number};
-ghost use Rattle.c_model.specs.Typing89 as text;
+ghost use Rattle.model_c89.specs.Typing89 as text;
 
 /// Each object has a number of its own, and is used in its scope.
 pub fn numbers_and_scopes_are_asked()
@@ -38,6 +41,18 @@ pub fn initial_values_are_asked()
     ensures call { is_typed_core call_in_constant ≡ false }
     ensures null { is_typed_core moved_null ≡ false }
     ensures own_array { is_typed_core array_in_its_initializer ≡ true }
+{}
+
+/// An object is covered where every scalar of it has a value.
+pub fn covered_objects_have_all_values()
+    ensures scalar { Covers [] int_type one_value }
+    ensures array { Covers [] (array_of int_type 2) first_of_two → ⊥ }
+{}
+
+/// What `{}` gives a pointer is null, and no null pointer constant.
+pub fn empty_braces_give_null()
+    ensures null { gives_null empty_pointer ≡ true }
+    ensures constant { is_null_constant empty_pointer ≡ false }
 {}
 
 /// Types are possible: lengths, elements, members, results, parameters and sizes.

@@ -1,12 +1,12 @@
 -- The value of a derived unit is a unit.
 use Rattle.std.proofs.Common.{◌≡◌, List, Option, Some, None, IsSome, ap, ◌∙◌}
-use Rattle.c_model.specs.declared.tokens.CTok.{CTok}
-use Rattle.c_model.specs.SyntaxActions.{tree_of, unit_in}
-use Rattle.c_model.specs.SyntaxForms.{External}
-use Rattle.c_model.specs.TerminalsOf.{terminals_of}
+use Rattle.model_tokens.specs.declared.tokens.CTok.{CTok}
+use Rattle.model_grammar.specs.SyntaxActions.{tree_of, unit_in}
+use Rattle.model_grammar.specs.SyntaxForms.{External}
+use Rattle.model_grammar.specs.TerminalsOf.{terminals_of}
 use Rattle.c_tree.proofs.SyntaxDerived.{derived_unit}
-use Rattle.syntax_actions.specs.declared.meanings.Value.{Value}
-use Rattle.syntax_actions.specs.Meanings.{value_seen}
+use Rattle.syntax_meanings.specs.declared.meanings.Value.{Value}
+use Rattle.syntax_meanings.specs.Meanings.{value_seen}
 use Rattle.c_parser.specs.Parsing.{IsUnitValue}
 
 unit_of_tree : (tokens : List CTok) (value : Value) (u : IsUnitValue tokens (terminals_of tokens) value) → unit_in (value_seen value).meaning ≡ tree_of tokens u.tree

@@ -1,10 +1,10 @@
 -- A part too many is met at a token.
 use Rattle.std.proofs.Common.{◌≡◌, ℕ, zero, suc, ◌+◌, ◌<◌, List, [], ◌∷◌, length, drop, slice_get, Option, Some, None, refl, ap, ◌∙◌, arith}
-use Rattle.c_model.specs.declared.tokens.CTok.{CTok}
-use Rattle.c_model.specs.declared.grammar.Terminal.{Terminal}
-use Rattle.c_model.specs.TerminalsOf.{terminals_from, terminals_of}
-use Rattle.c_model.specs.UnitSyntax.{IsTooDeep}
-use Rattle.c_model.proofs.SomeAnswer.{at_token}
+use Rattle.model_tokens.specs.declared.tokens.CTok.{CTok}
+use Rattle.model_grammar.specs.declared.grammar.Terminal.{Terminal}
+use Rattle.model_grammar.specs.TerminalsOf.{terminals_from, terminals_of}
+use Rattle.grammar_laws.specs.UnitSyntax.{IsTooDeep}
+use Rattle.grammar_laws.proofs.answers.AtLeastOneAnswer.{at_token}
 use Rattle.cake_base.specs.declared.places.Place.{Place}
 use Rattle.cake_base.specs.declared.rules.LimitHit.{LimitHit}
 use Rattle.c_parser.specs.Answers.{place_of, IsDepthLimit}

@@ -4,8 +4,8 @@ use Rattle.std.specs.Prelude.{get_or, set, replicate, reverse, fold}
 use Rattle.std.proofs.lemmas.Bool.{eq-eqb}
 use Rattle.std.proofs.lemmas.Option.{get_or_from_slice_get, slice_get_read}
 use Rattle.std.proofs.lemmas.List.{map-append, length-append, reverse-append, get_or-set_same, get_or-set_other, set-get_or, set-append_left}
-use Rattle.c_model.specs.declared.grammar.Entry.{Entry}
-use Rattle.c_model.specs.NameScopes.{is_type}
+use Rattle.model_grammar.specs.declared.grammar.Entry.{Entry}
+use Rattle.model_grammar.specs.NameScopes.{is_type}
 use Rattle.c_parser.specs.declared.entries.Kept.{Kept}
 use Rattle.c_parser.specs.Hiding.{type_at, Tells, IsWider}
 

@@ -1,4 +1,5 @@
 pub mod TestSteps
+pub mod FirstKinds
 pub mod ReaderSteps
 pub mod ReaderTurns
 pub mod ReaderMeasures

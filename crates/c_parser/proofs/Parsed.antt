@@ -1,32 +1,32 @@
 -- From what the reading did to what the tokens are.
 use Rattle.std.proofs.Common.{◌≡◌, Bool, false, ◌+◌, ◌-◌, ◌≤◌, List, [], ◌∷◌, ◌++◌, length, length-append, refl, ap, subst, ◌∙◌, arith, Err}
-use Rattle.c_model.specs.declared.grammar.Terminal.{Terminal}
-use Rattle.c_model.specs.declared.grammar.Tree.{Tree}
-use Rattle.c_model.specs.declared.tokens.CTok.{CTok}
-use Rattle.c_model.specs.SyntaxValues.{Value}
-use Rattle.c_model.specs.GrammarForm.{Form}
-use Rattle.c_model.specs.NameScopes.{Scopes, start}
-use Rattle.c_model.specs.DepthPlace.{Mark, AreShallow, marks, nothing_read}
-use Rattle.c_model.specs.LeftWeights.{IsWalkable}
-use Rattle.c_model.specs.ParserWalk.{Reads}
-use Rattle.c_model.specs.WalkedDerivation.{derivation, front_with}
-use Rattle.c_model.specs.ParserSets.{tables}
-use Rattle.c_model.specs.ParserTests.{parsed}
-use Rattle.c_model.specs.UnitSyntax.{unit, IsUnit, IsFault, IsTooDeep, stuck, ended}
-use Rattle.c_model.proofs.DecidedGrammar.{sound, begun, read_so_far, no_longer}
-use Rattle.c_model.proofs.ParserDecided.{quiet, checked}
-use Rattle.c_model.proofs.MarkedWalks.{begun_length}
-use Rattle.c_model.proofs.OneAnswer.{unit_walkable}
-use Rattle.c_model.proofs.SomeAnswer.{whole, fault, too_deep}
+use Rattle.model_grammar.specs.declared.grammar.Terminal.{Terminal}
+use Rattle.model_grammar.specs.declared.grammar.Tree.{Tree}
+use Rattle.model_tokens.specs.declared.tokens.CTok.{CTok}
+use Rattle.model_grammar.specs.SyntaxValues.{Value}
+use Rattle.model_grammar.specs.GrammarForm.{Form}
+use Rattle.model_grammar.specs.NameScopes.{Scopes, start}
+use Rattle.grammar_laws.specs.DepthPlace.{Mark, AreShallow, marks, nothing_read}
+use Rattle.grammar_laws.specs.apparatus.LeftWeights.{IsWalkable}
+use Rattle.grammar_laws.specs.ParserWalk.{Reads}
+use Rattle.grammar_laws.specs.WalkedDerivation.{derivation, front_with}
+use Rattle.grammar_laws.specs.ParserSets.{tables}
+use Rattle.grammar_laws.specs.ParserTests.{parsed}
+use Rattle.grammar_laws.specs.UnitSyntax.{unit, IsUnit, IsFault, IsTooDeep, stuck, ended}
+use Rattle.grammar_laws.proofs.walks.DecidedDerivations.{sound, begun, read_so_far, no_longer}
+use Rattle.grammar_laws.proofs.walks.ParserDecided.{quiet, checked}
+use Rattle.grammar_laws.proofs.walks.MarkedWalks.{begun_length}
+use Rattle.grammar_laws.proofs.answers.AtMostOneAnswer.{unit_walkable}
+use Rattle.grammar_laws.proofs.answers.AtLeastOneAnswer.{whole, fault, too_deep}
 use Rattle.c_parser.specs.declared.heights.Heights.{Heights}
 use Rattle.c_parser.specs.declared.heights.Context.{Context}
 use Rattle.c_parser.specs.declared.reader.Reader.{Reader}
 use Rattle.c_parser.specs.declared.reader.Stop.{Stop}
-use Rattle.c_parser.specs.declared.unit.Refusal.{Refusal}
+use Rattle.c_parser.specs.declared.unit.UnitRefusal.{UnitRefusal}
 use Rattle.c_parser.specs.declared.reader.Stop.TheVariants as stop
 use Rattle.c_parser.specs.Counting.{Stands}
-use Rattle.syntax_actions.specs.declared.meanings.Value.{Value as Made}
-use Rattle.syntax_actions.specs.Meanings.{values_seen}
+use Rattle.syntax_meanings.specs.declared.meanings.Value.{Value as Made}
+use Rattle.syntax_meanings.specs.Meanings.{values_seen}
 use Rattle.c_parser.specs.TreeValues.{built}
 use Rattle.c_parser.specs.Parsing.{IsUnitRead, Refused, UnitRead}
 use Rattle.c_parser.proofs.UnitValues.{one_tree}
@@ -117,5 +117,5 @@ pub told_deep : (tokens : List CTok) (f : Form) (context : Context) (old new : R
 told_deep tokens f context old new before later e h q = subst (λ x. Told tokens f context old new before later (Err x)) h q
 
 -- why a unit isn't read
-pub refused : (tokens : List CTok) (ts : List Terminal) (v : Bool) (why e : Refusal) → e ≡ why → UnitRead tokens ts v (Err e) → Refused ts why
+pub refused : (tokens : List CTok) (ts : List Terminal) (v : Bool) (why e : UnitRefusal) → e ≡ why → UnitRead tokens ts v (Err e) → Refused ts why
 refused tokens ts v why e h q = subst (λ x. UnitRead tokens ts v (Err x)) h q

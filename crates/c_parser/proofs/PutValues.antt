@@ -2,16 +2,16 @@
 use mathlib.Core.Former.{Count}
 use Rattle.std.specs.Prelude.{◌≡◌, Bool, true, false, List, [], ◌∷◌, ◌++◌, refl}
 use Rattle.std.proofs.Common.{◌∙◌, ap, sym, append_assoc, append-nil}
-use Rattle.c_model.specs.declared.grammar.Rule.{Rule}
-use Rattle.c_model.specs.declared.grammar.Terminal.{Terminal}
-use Rattle.c_model.specs.declared.grammar.Tree.{Tree, Row_of-Tree, end_of-Tree, more_of-Tree, items-the_row-Tree}
-use Rattle.c_model.specs.declared.grammar.Tree.TheBlock.{hidden-the_row-Tree-0, items_hidden-the_row-Tree-0}
-use Rattle.c_model.specs.declared.grammar.Tree.TheVariants as tree
-use Rattle.c_model.specs.declared.tokens.CTok.{CTok}
-use Rattle.c_model.specs.SyntaxValues.{Value, leaf_value}
-use Rattle.c_model.specs.SyntaxActions.{value_of, values_of, node_value}
-use Rattle.syntax_actions.specs.declared.meanings.Value.{Value as Made}
-use Rattle.syntax_actions.specs.Meanings.{value_seen, values_seen}
+use Rattle.model_grammar.specs.declared.grammar.Rule.{Rule}
+use Rattle.model_grammar.specs.declared.grammar.Terminal.{Terminal}
+use Rattle.model_grammar.specs.declared.grammar.Tree.{Tree, Row_of-Tree, end_of-Tree, more_of-Tree, items-the_row-Tree}
+use Rattle.model_grammar.specs.declared.grammar.Tree.TheBlock.{hidden-the_row-Tree-0, items_hidden-the_row-Tree-0}
+use Rattle.model_grammar.specs.declared.grammar.Tree.TheVariants as tree
+use Rattle.model_tokens.specs.declared.tokens.CTok.{CTok}
+use Rattle.model_grammar.specs.SyntaxValues.{Value, leaf_value}
+use Rattle.model_grammar.specs.SyntaxActions.{value_of, values_of, node_value}
+use Rattle.syntax_meanings.specs.declared.meanings.Value.{Value as Made}
+use Rattle.syntax_meanings.specs.Meanings.{value_seen, values_seen}
 use Rattle.c_parser.specs.TreeValues.{values, built, only_if}
 
 pub values_append : (tokens : List CTok) (xs ys : List Tree) → values tokens (xs ++ ys) ≡ values tokens xs ++ values tokens ys

@@ -1,15 +1,15 @@
 -- The measure of the recursion falls: four times the tokens that are left and the weight of the form, and which function.
 use Rattle.std.proofs.Common.{◌≡◌, ℕ, ◌+◌, ◌*◌, ◌<◌, ◌≤◌, List, length, refl, arith}
-use Rattle.c_model.specs.declared.grammar.Rule.{Rule}
-use Rattle.c_model.specs.declared.grammar.Test.{Test}
-use Rattle.c_model.specs.declared.grammar.Terminal.{Terminal}
-use Rattle.c_model.specs.declared.tokens.CTok.{CTok}
-use Rattle.c_model.specs.SyntaxValues.{Value}
-use Rattle.c_model.specs.GrammarForm.{Form, rule, ◌then◌, ◌or◌, maybe, many, when, loop}
-use Rattle.c_model.specs.NameScopes.{Scopes}
-use Rattle.c_model.specs.LeftWeights.{weight, IsWalkable}
-use Rattle.c_model.specs.ParserTable.{table}
-use Rattle.c_model.proofs.TotalWalk.{falls_rule, falls_first, falls_second, falls_or, falls_when, falls_maybe}
+use Rattle.model_grammar.specs.declared.grammar.Rule.{Rule}
+use Rattle.model_grammar.specs.declared.grammar.Test.{Test}
+use Rattle.model_grammar.specs.declared.grammar.Terminal.{Terminal}
+use Rattle.model_tokens.specs.declared.tokens.CTok.{CTok}
+use Rattle.model_grammar.specs.SyntaxValues.{Value}
+use Rattle.model_grammar.specs.GrammarForm.{Form, rule, ◌then◌, ◌or◌, maybe, many, when, loop}
+use Rattle.model_grammar.specs.NameScopes.{Scopes}
+use Rattle.grammar_laws.specs.apparatus.LeftWeights.{weight, IsWalkable}
+use Rattle.grammar_laws.specs.ParserTable.{table}
+use Rattle.grammar_laws.proofs.walks.TotalWalk.{falls_rule, falls_first, falls_second, falls_or, falls_when, falls_maybe}
 use Rattle.c_parser.specs.declared.heights.Heights.{Heights}
 use Rattle.c_parser.specs.declared.heights.Context.{Context}
 use Rattle.c_parser.specs.declared.reader.Reader.{Reader}

@@ -1,29 +1,29 @@
 -- What each step of the reading shows.
 use Rattle.std.proofs.Common.{◌≡◌, ℕ, Bool, true, false, List, [], ◌∷◌, ◌++◌, refl, ap, sym, subst, ◌∙◌, append_assoc, Result, Ok, Err}
 use Rattle.std.specs.Prelude.{if◌then◌else◌}
-use Rattle.c_model.specs.declared.grammar.Rule.{Rule}
-use Rattle.c_model.specs.declared.grammar.Act.{Act}
-use Rattle.c_model.specs.declared.grammar.Test.{Test}
-use Rattle.c_model.specs.declared.grammar.Terminal.{Terminal}
-use Rattle.c_model.specs.declared.tokens.CTok.{CTok}
-use Rattle.c_model.specs.SyntaxValues.{Value, leaf_value}
-use Rattle.c_model.specs.GrammarForm.{Form, word, rule, empty, ◌then◌, ◌or◌, maybe, when, mem}
-use Rattle.c_model.specs.Grammar.{is_part}
-use Rattle.c_model.specs.NameScopes.{Scopes, kind, after}
-use Rattle.c_model.specs.DecidedTable.{first}
-use Rattle.c_model.specs.DepthPlace.{Mark, Piece, AreShallow, EndsDeep, nothing_read, one_token, joined, behind, shown, ends, deeper, is_chain, grown, grown_so_far}
-use Rattle.c_model.specs.ParserWalk.{Reads, Fails, Meets, ahead, goes_left}
-use Rattle.c_model.specs.WalkedDerivation.{derivation, front, front_with}
-use Rattle.c_model.specs.ParserTable.{table}
-use Rattle.c_model.specs.ParserSets.{tables}
-use Rattle.c_model.specs.ParserTests.{parsed, passes}
-use Rattle.c_model.proofs.MarksBehind.{derived_behind, begun_behind}
+use Rattle.model_grammar.specs.declared.grammar.Rule.{Rule}
+use Rattle.model_grammar.specs.declared.grammar.Act.{Act}
+use Rattle.model_grammar.specs.declared.grammar.Test.{Test}
+use Rattle.model_grammar.specs.declared.grammar.Terminal.{Terminal}
+use Rattle.model_tokens.specs.declared.tokens.CTok.{CTok}
+use Rattle.model_grammar.specs.SyntaxValues.{Value, leaf_value}
+use Rattle.model_grammar.specs.GrammarForm.{Form, word, rule, empty, ◌then◌, ◌or◌, maybe, when, mem}
+use Rattle.model_grammar.specs.Grammar.{is_part}
+use Rattle.model_grammar.specs.NameScopes.{Scopes, kind, after}
+use Rattle.grammar_laws.specs.FirstTokens.{first}
+use Rattle.grammar_laws.specs.DepthPlace.{Mark, Piece, AreShallow, EndsDeep, nothing_read, one_token, joined, behind, shown, ends, deeper, is_chain, grown, grown_so_far}
+use Rattle.grammar_laws.specs.ParserWalk.{Reads, Fails, Meets, ahead, goes_left}
+use Rattle.grammar_laws.specs.WalkedDerivation.{derivation, front, front_with}
+use Rattle.grammar_laws.specs.ParserTable.{table}
+use Rattle.grammar_laws.specs.ParserSets.{tables}
+use Rattle.grammar_laws.specs.ParserTests.{parsed, passes}
+use Rattle.grammar_laws.proofs.walks.MarksBehindParts.{derived_behind, begun_behind}
 use Rattle.c_parser.specs.declared.heights.Heights.{Heights}
 use Rattle.c_parser.specs.declared.heights.Context.{Context}
 use Rattle.c_parser.specs.declared.reader.Reader.{Reader}
 use Rattle.c_parser.specs.declared.reader.Stop.{Stop}
 use Rattle.c_parser.specs.declared.reader.Stop.TheVariants as stop
-use Rattle.c_model.specs.SyntaxActions.{node_value}
+use Rattle.model_grammar.specs.SyntaxActions.{node_value}
 use Rattle.c_parser.specs.TreeValues.{built, only_if}
 use Rattle.c_parser.proofs.PutValues.{put_more, put_nothing, put_leaf, put_node}
 use Rattle.c_parser.specs.Counting.{counted, Counts, Stands, Tells, next_mark}

@@ -1,22 +1,22 @@
 -- What one more turn of a repeated form shows, and what all turns show.
 use Rattle.std.proofs.Common.{◌≡◌, ℕ, ◌<◌, ◌≤◌, Bool, true, false, not, List, [], ◌++◌, length, refl, ap, sym, subst, ◌∙◌, arith, append_assoc, Err}
 use Rattle.std.specs.Prelude.{if◌then◌else◌}
-use Rattle.c_model.specs.declared.grammar.Test.{Test}
-use Rattle.c_model.specs.declared.grammar.Terminal.{Terminal}
-use Rattle.c_model.specs.declared.grammar.Tree.{Tree}
-use Rattle.c_model.specs.declared.tokens.CTok.{CTok}
-use Rattle.c_model.specs.SyntaxValues.{Value}
-use Rattle.c_model.specs.GrammarForm.{Form, many, loop, mem}
-use Rattle.c_model.specs.NameScopes.{Scopes}
-use Rattle.c_model.specs.DecidedTable.{first}
-use Rattle.c_model.specs.DepthPlace.{Piece, AreShallow, EndsDeep, nothing_read, joined, chained, behind, grown, grown_so_far}
-use Rattle.c_model.specs.LeftWeights.{IsWalkable}
-use Rattle.c_model.specs.ParserWalk.{Reads, Fails, Meets, ahead}
-use Rattle.c_model.specs.WalkedDerivation.{derivation, front, front_with}
-use Rattle.c_model.specs.ParserSets.{tables}
-use Rattle.c_model.specs.ParserTests.{parsed, passes}
-use Rattle.c_model.proofs.MarksBehind.{derived_behind, begun_behind}
-use Rattle.c_model.proofs.TotalWalk.{many_moves, loop_moves}
+use Rattle.model_grammar.specs.declared.grammar.Test.{Test}
+use Rattle.model_grammar.specs.declared.grammar.Terminal.{Terminal}
+use Rattle.model_grammar.specs.declared.grammar.Tree.{Tree}
+use Rattle.model_tokens.specs.declared.tokens.CTok.{CTok}
+use Rattle.model_grammar.specs.SyntaxValues.{Value}
+use Rattle.model_grammar.specs.GrammarForm.{Form, many, loop, mem}
+use Rattle.model_grammar.specs.NameScopes.{Scopes}
+use Rattle.grammar_laws.specs.FirstTokens.{first}
+use Rattle.grammar_laws.specs.DepthPlace.{Piece, AreShallow, EndsDeep, nothing_read, joined, chained, behind, grown, grown_so_far}
+use Rattle.grammar_laws.specs.apparatus.LeftWeights.{IsWalkable}
+use Rattle.grammar_laws.specs.ParserWalk.{Reads, Fails, Meets, ahead}
+use Rattle.grammar_laws.specs.WalkedDerivation.{derivation, front, front_with}
+use Rattle.grammar_laws.specs.ParserSets.{tables}
+use Rattle.grammar_laws.specs.ParserTests.{parsed, passes}
+use Rattle.grammar_laws.proofs.walks.MarksBehindParts.{derived_behind, begun_behind}
+use Rattle.grammar_laws.proofs.walks.TotalWalk.{many_moves, loop_moves}
 use Rattle.c_parser.specs.declared.heights.Heights.{Heights}
 use Rattle.c_parser.specs.declared.heights.Context.{Context}
 use Rattle.c_parser.specs.declared.reader.Reader.{Reader}

@@ -2,11 +2,11 @@
 use Rattle.std.proofs.Common.{◌≡◌, ℕ, zero, suc, ◌+◌, ◌-◌, ◌<◌, Bool, true, false, List, [], ◌∷◌, ◌++◌, take, drop, length, slice_get, Option, Some, None, refl, ap, sym, subst, ◌∙◌, arith, cond, append_assoc, append-nil}
 use Rattle.std.specs.Str.{bytes_eq}
 use Rattle.std.proofs.lemmas.Slice.Eq.{bytes_eq-Decides}
-use Rattle.c_model.specs.declared.tokens.CKind.{CKind}
-use Rattle.c_model.specs.declared.tokens.CKind.TheVariants as token
-use Rattle.c_model.specs.declared.tokens.CTok.{CTok}
-use Rattle.c_model.specs.declared.grammar.Terminal.{Terminal}
-use Rattle.c_model.specs.TerminalsOf.{kind_number, is_spelled, first_rank, name_number, terminals_from, terminals_of}
+use Rattle.model_tokens.specs.declared.tokens.CKind.{CKind}
+use Rattle.model_tokens.specs.declared.tokens.CKind.TheVariants as token
+use Rattle.model_tokens.specs.declared.tokens.CTok.{CTok}
+use Rattle.model_grammar.specs.declared.grammar.Terminal.{Terminal}
+use Rattle.model_grammar.specs.TerminalsOf.{kind_number, is_spelled, first_rank, name_number, terminals_from, terminals_of}
 use Rattle.c_parser.specs.Ranks.{Spelled, ranked, known_or, with_spelling, number_behind, with_kind, first_seen, AreBefore}
 
 first_known : (spelling : List ℕ) (rank first m : ℕ) (ts : List CTok) → first_seen spelling rank (take m ts) ≡ Some first → first_rank spelling rank ts ≡ first

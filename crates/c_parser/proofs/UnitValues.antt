@@ -1,18 +1,18 @@
 -- The value that is left behind a unit is that of its one tree.
 use Rattle.std.proofs.Common.{◌≡◌, true, List, [], ◌∷◌, ◌++◌, refl, sym, ap, ◌∙◌}
-use Rattle.c_model.specs.declared.grammar.Rule.{Rule}
-use Rattle.c_model.specs.declared.grammar.Terminal.{Terminal}
-use Rattle.c_model.specs.declared.grammar.Tree.{Tree}
-use Rattle.c_model.specs.declared.tokens.CTok.{CTok}
-use Rattle.c_model.specs.GrammarForm.{rule}
-use Rattle.c_model.specs.NameScopes.{Scopes}
-use Rattle.c_model.specs.ParserSets.{tables}
-use Rattle.c_model.specs.ParserTests.{parsed}
-use Rattle.c_model.specs.ParserWalk.{Reads}
-use Rattle.c_model.specs.SyntaxActions.{value_of}
-use Rattle.c_model.specs.SyntaxValues as spec
-use Rattle.syntax_actions.specs.declared.meanings.Value.{Value}
-use Rattle.syntax_actions.specs.Meanings.{value_seen, values_seen}
+use Rattle.model_grammar.specs.declared.grammar.Rule.{Rule}
+use Rattle.model_grammar.specs.declared.grammar.Terminal.{Terminal}
+use Rattle.model_grammar.specs.declared.grammar.Tree.{Tree}
+use Rattle.model_tokens.specs.declared.tokens.CTok.{CTok}
+use Rattle.model_grammar.specs.GrammarForm.{rule}
+use Rattle.model_grammar.specs.NameScopes.{Scopes}
+use Rattle.grammar_laws.specs.ParserSets.{tables}
+use Rattle.grammar_laws.specs.ParserTests.{parsed}
+use Rattle.grammar_laws.specs.ParserWalk.{Reads}
+use Rattle.model_grammar.specs.SyntaxActions.{value_of}
+use Rattle.model_grammar.specs.SyntaxValues as spec
+use Rattle.syntax_meanings.specs.declared.meanings.Value.{Value}
+use Rattle.syntax_meanings.specs.Meanings.{value_seen, values_seen}
 use Rattle.c_parser.specs.Parsing.{IsUnitValue, IsUnitRead}
 use Rattle.c_parser.specs.TreeValues.{values}
 

@@ -4,15 +4,15 @@ use Rattle.cake_base.specs.declared.places.Place.{Place}
 use Rattle.cake_base.specs.declared.rules.Fault.{Fault}
 use Rattle.cake_base.specs.declared.rules.LimitHit.{LimitHit}
 use Rattle.cake_base.specs.declared.rules.Family.TheVariants.{S}
-use Rattle.c_model.specs.declared.tokens.CTok.{CTok}
-use Rattle.c_model.specs.declared.grammar.Tree.{Tree}
-use Rattle.c_model.specs.TerminalsOf.{terminals_of}
+use Rattle.model_tokens.specs.declared.tokens.CTok.{CTok}
+use Rattle.model_grammar.specs.declared.grammar.Tree.{Tree}
+use Rattle.model_grammar.specs.TerminalsOf.{terminals_of}
 use Rattle.c_parser.specs.declared.errors.ParseError.{ParseError}
 use Rattle.c_parser.specs.declared.errors.ParseError.TheVariants as parse_error
-use Rattle.c_model.specs.SyntaxActions.{tree_of}
-use Rattle.c_model.specs.SyntaxForms.{External}
+use Rattle.model_grammar.specs.SyntaxActions.{tree_of}
+use Rattle.model_grammar.specs.SyntaxForms.{External}
 use Rattle.c_tree.specs.SyntaxTrees.{unit_of}
-use Rattle.c_model.specs.UnitSyntax.{IsUnit, IsFault, IsTooDeep}
+use Rattle.grammar_laws.specs.UnitSyntax.{IsUnit, IsFault, IsTooDeep}
 
 -- the place of a token, or the end of the list where there is none
 abbrev pub place_of : Option CTok → Place → Place

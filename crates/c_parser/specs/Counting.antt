@@ -1,6 +1,6 @@
 -- What the code keeps of a piece: its heights, as far as the limit counts them, and no list of marks.
 use Rattle.std.specs.Prelude.{ℕ, ◌≡◌, ◌+◌, min, max, Bool, true, false}
-use Rattle.c_model.specs.DepthPlace.{Mark, Piece, PassesLimit, AreShallow, max_parts}
+use Rattle.grammar_laws.specs.DepthPlace.{Mark, Piece, PassesLimit, AreShallow, max_parts}
 use Rattle.c_parser.specs.declared.heights.Heights.{Heights}
 use Rattle.c_parser.specs.declared.heights.Context.{Context}
 

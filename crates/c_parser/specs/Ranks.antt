@@ -1,10 +1,10 @@
 -- The identifiers before a place of a list of tokens, each with the rank of the first token of its spelling.
 use Rattle.std.specs.Prelude.{ℕ, ◌≡◌, ◌+◌, if◌then◌else◌, List, [], ◌∷◌, ◌++◌, take, Option, Some, None}
 use Rattle.std.specs.Str.{bytes_eq}
-use Rattle.c_model.specs.declared.tokens.CKind.{CKind}
-use Rattle.c_model.specs.declared.tokens.CKind.TheVariants as token
-use Rattle.c_model.specs.declared.tokens.CTok.{CTok}
-use Rattle.c_model.specs.TerminalsOf.{is_spelled}
+use Rattle.model_tokens.specs.declared.tokens.CKind.{CKind}
+use Rattle.model_tokens.specs.declared.tokens.CKind.TheVariants as token
+use Rattle.model_tokens.specs.declared.tokens.CTok.{CTok}
+use Rattle.model_grammar.specs.TerminalsOf.{is_spelled}
 
 abbrev pub Spelled : Type 0
 Spelled = List ℕ × ℕ

@@ -5,17 +5,17 @@ use Rattle.c_parser.specs.declared.heights.Context.{Context}
 use Rattle.c_parser.specs.declared.reader.Reader.{Reader}
 use Rattle.c_parser.specs.declared.reader.Stop.{Stop}
 use Rattle.c_parser.specs.declared.reader.Stop.TheVariants as stop
-use Rattle.c_model.specs.declared.grammar.Terminal.{Terminal}
-use Rattle.c_model.specs.declared.grammar.Tree.{Tree}
-use Rattle.c_model.specs.declared.tokens.CTok.{CTok}
-use Rattle.c_model.specs.GrammarForm.{Form}
-use Rattle.c_model.specs.NameScopes.{Scopes}
-use Rattle.c_model.specs.DepthPlace.{Piece, AreShallow, EndsDeep, nothing_read, joined, chained, grown, grown_so_far}
-use Rattle.c_model.specs.ParserWalk.{Reads, Fails, Meets}
-use Rattle.c_model.specs.WalkedDerivation.{derivation, front, front_with}
-use Rattle.c_model.specs.ParserSets.{tables}
-use Rattle.c_model.specs.ParserTests.{parsed}
-use Rattle.c_model.specs.SyntaxValues.{Value}
+use Rattle.model_grammar.specs.declared.grammar.Terminal.{Terminal}
+use Rattle.model_grammar.specs.declared.grammar.Tree.{Tree}
+use Rattle.model_tokens.specs.declared.tokens.CTok.{CTok}
+use Rattle.model_grammar.specs.GrammarForm.{Form}
+use Rattle.model_grammar.specs.NameScopes.{Scopes}
+use Rattle.grammar_laws.specs.DepthPlace.{Piece, AreShallow, EndsDeep, nothing_read, joined, chained, grown, grown_so_far}
+use Rattle.grammar_laws.specs.ParserWalk.{Reads, Fails, Meets}
+use Rattle.grammar_laws.specs.WalkedDerivation.{derivation, front, front_with}
+use Rattle.grammar_laws.specs.ParserSets.{tables}
+use Rattle.grammar_laws.specs.ParserTests.{parsed}
+use Rattle.model_grammar.specs.SyntaxValues.{Value}
 use Rattle.c_parser.specs.Counting.{Stands}
 use Rattle.c_parser.specs.TreeValues.{built}
 

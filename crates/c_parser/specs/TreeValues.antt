@@ -1,9 +1,9 @@
 -- What trees of the grammar stand for, over the tokens of their list.
 use Rattle.std.specs.Prelude.{Bool, true, false, List, [], ◌∷◌}
-use Rattle.c_model.specs.declared.grammar.Tree.{Tree}
-use Rattle.c_model.specs.declared.tokens.CTok.{CTok}
-use Rattle.c_model.specs.SyntaxValues.{Value}
-use Rattle.c_model.specs.SyntaxActions.{value_of}
+use Rattle.model_grammar.specs.declared.grammar.Tree.{Tree}
+use Rattle.model_tokens.specs.declared.tokens.CTok.{CTok}
+use Rattle.model_grammar.specs.SyntaxValues.{Value}
+use Rattle.model_grammar.specs.SyntaxActions.{value_of}
 
 abbrev pub values : List CTok → List Tree → List Value
 values tokens [] = []

@@ -1,6 +1,6 @@
 -- The forms of the code as those of the definitions.
 use Rattle.c_parser.specs.declared.forms.Form as f
-use Rattle.c_model.specs.GrammarForm.{Form, word, rule, empty, ◌then◌, ◌or◌, maybe, many, when, loop}
+use Rattle.model_grammar.specs.GrammarForm.{Form, word, rule, empty, ◌then◌, ◌or◌, maybe, many, when, loop}
 
 abbrev pub form : f.Form → Form
 form (f.Word ks a) = word ks.now a

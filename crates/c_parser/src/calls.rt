@@ -1,13 +1,13 @@
 //! The parsing of a list of tokens of C.
 
 ghost use Rattle.std.specs.Prelude.{◌≡◌, slice_get};
-ghost use Rattle.c_model.specs.TerminalsOf.{terminals_of};
+ghost use Rattle.model_grammar.specs.TerminalsOf.{terminals_of};
 ghost use Rattle.c_parser.specs.Answers.{Answers, place_of, IsSyntaxError, IsDepthLimit};
-ghost use Rattle.c_model.specs.UnitSyntax.{IsFault, IsTooDeep};
+ghost use Rattle.grammar_laws.specs.UnitSyntax.{IsFault, IsTooDeep};
 
 use crate::errors::ParseError;
 use crate::terminals::terminals;
-use crate::unit::{Refusal, parse_terminals};
+use crate::unit::{UnitRefusal, parse_terminals};
 use c_tokens::CList;
 use c_tree::Tree;
 use cake_base::{Family, Fault, Limit, LimitHit, Place, Rule};
@@ -65,8 +65,8 @@ pub fn parse(alloc: Global, toks: &CList, end: Place) -> Result<Tree, ParseError
             Some(tree) => Ok(tree),
             None => unreachable!(),
         },
-        Err(Refusal::Memory) => Err(ParseError::NoMemory),
-        Err(Refusal::Deep(at)) => Err(ParseError::Limit(depth_limit(toks, at, end))),
-        Err(Refusal::Fault(at)) => Err(ParseError::Fault(syntax_error(toks, at, end))),
+        Err(UnitRefusal::Memory) => Err(ParseError::NoMemory),
+        Err(UnitRefusal::Deep(at)) => Err(ParseError::Limit(depth_limit(toks, at, end))),
+        Err(UnitRefusal::Fault(at)) => Err(ParseError::Fault(syntax_error(toks, at, end))),
     }
 }

@@ -1,10 +1,10 @@
 //! The names that are declared in the open scopes.
 
 ghost use Rattle.std.specs.Prelude.{◌≡◌, ◌++◌, ◌∷◌, [], ◌-◌, ◌<◌, ◌^◌, length, take, drop, OnOk, OnErr, IfOk};
-ghost use Rattle.c_model.specs.NameScopes as spec;
+ghost use Rattle.model_grammar.specs.NameScopes as spec;
 ghost use Rattle.c_parser.specs.Hiding.{IsWider};
 
-use c_model::grammar::Entry;
+use model_grammar::grammar::Entry;
 use sqlite_items::Items;
 use std::alloc::{AllocError, Global};
 use std::marker::Model;
@@ -26,7 +26,7 @@ pub struct Entries {
 
 impl Model for Entries {
     ghost use Rattle.std.specs.Prelude.{List, map, reverse};
-    ghost use Rattle.c_model.specs.declared.grammar.Entry.{Entry as Declared};
+    ghost use Rattle.model_grammar.specs.declared.grammar.Entry.{Entry as Declared};
     ghost use Rattle.c_parser.specs.Hiding.{Tells};
 
     ghost Value = { List Declared };

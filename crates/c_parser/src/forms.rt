@@ -2,10 +2,10 @@
 
 ghost use Rattle.std.specs.Prelude.{◌≡◌};
 ghost use Rattle.c_parser.specs.View.{form};
-ghost use Rattle.c_model.specs.ParserTable as spec;
+ghost use Rattle.grammar_laws.specs.ParserTable as spec;
 
 use crate::{declarations as decl, statements as stat};
-use c_model::grammar::{Act, Rule, Test};
+use model_grammar::grammar::{Act, Rule, Test};
 
 /// The right side of a production.
 pub enum Form {
@@ -24,7 +24,7 @@ pub enum Form {
 }
 
 /// The right side of the nonterminal.
-#[tactic(auto, unfolding(c_model::specs::ParserTable::table))]
+#[tactic(auto, unfolding(grammar_laws::specs::ParserTable::table))]
 pub fn body(rule: Rule) -> &'static Form
     ensures { form result.now ≡ spec.table rule }
 {

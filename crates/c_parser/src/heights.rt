@@ -1,12 +1,11 @@
 //! How many parts are open, and how high a part has become, as far as the limit on nesting counts them.
 
 ghost use Rattle.std.specs.Prelude.{◌≡◌, ◌+◌, ℕ, false};
-ghost use Rattle.c_model.specs.DepthPlace as depth;
-ghost use Rattle.c_model.specs.Grammar as grammar;
+ghost use Rattle.grammar_laws.specs.DepthPlace as depth;
+ghost use Rattle.model_grammar.specs.Grammar as grammar;
 ghost use Rattle.c_parser.specs.Counting.{counted, Counts, Tells};
 
-use crate::sets::{is_chain, is_part};
-use c_model::grammar::Rule;
+use model_grammar::grammar::Rule;
 
 /// How many parts may be open at a token, and how high a part may be (M06).
 const MAX_PARTS: usize = 1000;
@@ -29,6 +28,50 @@ pub struct Context {
     pub chain: bool,
     /// Whether what is read is built.
     pub builds: bool,
+}
+
+/// Whether the nonterminal counts as a part.
+#[tactic(auto, unfolding(model_grammar::specs::Grammar::is_part))]
+fn is_part(rule: Rule) -> bool
+    ensures { result ≡ grammar.is_part rule }
+{
+    match rule {
+        Rule::Struct
+        | Rule::Enum
+        | Rule::Declarator
+        | Rule::Abstract
+        | Rule::Braces
+        | Rule::Block
+        | Rule::Statement
+        | Rule::Expr
+        | Rule::Assign
+        | Rule::Cond
+        | Rule::Cast
+        | Rule::Unary
+        | Rule::Typeof => true,
+        _ => false,
+    }
+}
+
+/// Whether the repetition in the nonterminal is a chain that is read from the left.
+fn is_chain(rule: Rule) -> bool
+    ensures { result ≡ depth.is_chain rule }
+{
+    match rule {
+        Rule::Oror
+        | Rule::Andand
+        | Rule::Bor
+        | Rule::Bxor
+        | Rule::Band
+        | Rule::Equal
+        | Rule::Rel
+        | Rule::Shift
+        | Rule::Sum
+        | Rule::Product
+        | Rule::Expr
+        | Rule::Postfix => true,
+        _ => false,
+    }
 }
 
 /// One more, as far as it counts.

@@ -1,15 +1,17 @@
 //! What the parser asks of the tokens ahead.
 
 ghost use Rattle.std.specs.Prelude.{◌≡◌, ◌∷◌, [], true, false, ◌+◌, ◌<◌, ◌≤◌, ◌^◌, ◌&&◌, ◌||◌, not, IfSome, MatchOption};
-ghost use Rattle.c_model.specs.ParserTests as spec;
-ghost use Rattle.c_model.specs.SyntaxTree as tree;
-ghost use Rattle.c_model.specs.declared.grammar.Before.TheVariants as before;
-ghost use Rattle.c_model.specs.declared.grammar.Within.TheVariants as within;
+ghost use Rattle.grammar_laws.specs.ParserTests as spec;
+ghost use Rattle.model_grammar.specs.SyntaxTree as tree;
+ghost use Rattle.model_grammar.specs.declared.grammar.Before.TheVariants as before;
+ghost use Rattle.model_grammar.specs.declared.grammar.Within.TheVariants as within;
 
-use crate::names::{Names, is_closing, is_opening};
-use crate::sets::may_begin;
-use c_model::grammar::{Before, Rule, Terminal, Test, Within};
-use syntax_actions::kinds;
+use crate::brackets::{is_closing, is_opening};
+use crate::kind_groups::TYPE_WORDS;
+use crate::sets::{is_one, may_begin};
+use crate::typedef_names::TypedefNames;
+use model_grammar::grammar::{Before, Rule, Terminal, Test, Within};
+use syntax_meanings::kinds;
 
 /// The first token, and those behind it.
 pub fn split(tokens: &[Terminal]) -> Option<(Terminal, &[Terminal])>
@@ -44,7 +46,7 @@ fn sees_attribute(tokens: &[Terminal]) -> bool
 }
 
 /// Whether the first token may begin the nonterminal.
-fn may_come(rule: Rule, names: &Names, tokens: &[Terminal]) -> bool
+fn may_come(rule: Rule, names: &TypedefNames, tokens: &[Terminal]) -> bool
     ensures { result ≡ spec.may_come rule names.now tokens.now }
 {
     match tokens {
@@ -54,15 +56,15 @@ fn may_come(rule: Rule, names: &Names, tokens: &[Terminal]) -> bool
 }
 
 /// Whether a type specifier or a qualifier comes next.
-#[tactic(auto, unfolding(c_model::specs::ParserSets::firsts))]
-fn sees_type(names: &Names, tokens: &[Terminal]) -> bool
+#[tactic(auto, unfolding(grammar_laws::specs::ParserSets::firsts))]
+fn sees_type(names: &TypedefNames, tokens: &[Terminal]) -> bool
     ensures { result ≡ tree.sees_type names.now tokens.now }
 {
     may_come(Rule::Squals, names, tokens)
 }
 
 /// What is behind the bracket that closes the first.
-#[tactic(auto, unfolding(c_model::specs::ParserTests::past_brackets))]
+#[tactic(auto, unfolding(grammar_laws::specs::ParserTests::past_brackets))]
 fn past_brackets(tokens: &[Terminal]) -> &[Terminal]
     ensures { result.now ≡ spec.past_brackets 0 tokens.now }
 {
@@ -83,7 +85,7 @@ fn past_brackets(tokens: &[Terminal]) -> &[Terminal]
 }
 
 /// What is behind the attributes that come next.
-#[tactic(auto, unfolding(c_model::specs::ParserTests::past_attributes))]
+#[tactic(auto, unfolding(grammar_laws::specs::ParserTests::past_attributes))]
 fn past_attributes(tokens: &[Terminal]) -> &[Terminal]
     ensures { result.now ≡ spec.past_attributes 0 tokens.now }
 {
@@ -104,7 +106,7 @@ fn past_attributes(tokens: &[Terminal]) -> &[Terminal]
 }
 
 /// Whether an identifier comes next that is no typedef name.
-fn sees_name(names: &Names, tokens: &[Terminal]) -> bool
+fn sees_name(names: &TypedefNames, tokens: &[Terminal]) -> bool
     ensures { result ≡ spec.sees_name names.now tokens.now }
 {
     match tokens {
@@ -114,7 +116,7 @@ fn sees_name(names: &Names, tokens: &[Terminal]) -> bool
 }
 
 /// Whether the token is the name of the declarator.
-fn is_name(before: Before, names: &Names, token: Terminal) -> bool
+fn is_name(before: Before, names: &TypedefNames, token: Terminal) -> bool
     ensures { result ≡ spec.is_name before names.now token }
 {
     token.kind == kinds::NAME && (!names.names_type(token.name) || declares(before))
@@ -166,7 +168,7 @@ fn outside_step(is_behind: bool, is_star: bool, kind: u8, is_attribute: bool) ->
 }
 
 /// Where what is behind the first token of a declarator stands.
-#[tactic(auto, unfolding(c_model::specs::ParserTests::declarator_step))]
+#[tactic(auto, unfolding(grammar_laws::specs::ParserTests::declarator_step))]
 fn declarator_step(before: Before, kind: u8, is_attribute: bool) -> Option<Before>
     requires { spec.opened before < 2 ^ 63 }
     ensures place { result ≡ spec.declarator_step before kind is_attribute }
@@ -181,8 +183,8 @@ fn declarator_step(before: Before, kind: u8, is_attribute: bool) -> Option<Befor
 }
 
 /// Whether behind any `*`, attributes, qualifiers and `(` stands the name of a declarator, or the tokens end.
-#[tactic(auto, unfolding(c_model::specs::ParserTests::names_declarator))]
-fn names_declarator(names: &Names, tokens: &[Terminal]) -> bool
+#[tactic(auto, unfolding(grammar_laws::specs::ParserTests::names_declarator))]
+fn names_declarator(names: &TypedefNames, tokens: &[Terminal]) -> bool
     ensures { result ≡ spec.names_declarator (before.AtStart names.now.reading.typed) names.now tokens.now }
 {
     let mut rest = tokens;
@@ -233,7 +235,7 @@ fn sees_comma_without(kind: u8, tokens: &[Terminal]) -> bool
 }
 
 /// Whether `,` and an enumerator come next.
-fn sees_enumerator(names: &Names, tokens: &[Terminal]) -> bool
+fn sees_enumerator(names: &TypedefNames, tokens: &[Terminal]) -> bool
     ensures { result ≡ spec.sees_enumerator names.now tokens.now }
 {
     match split(tokens) {
@@ -257,7 +259,7 @@ fn sees_attributes_alone(tokens: &[Terminal]) -> bool
 }
 
 /// Whether a specifier stands behind the attributes that come next, if any.
-fn specifies(names: &Names, tokens: &[Terminal]) -> bool
+fn specifies(names: &TypedefNames, tokens: &[Terminal]) -> bool
     ensures { result ≡ spec.specifies names.now tokens.now }
 {
     may_come(Rule::Specs, names, past_attributes(tokens))
@@ -271,14 +273,14 @@ fn sees_label(tokens: &[Terminal]) -> bool
 }
 
 /// Whether a type name begins with the token, where no type specifier precedes it.
-fn begins_type(names: &Names, token: Terminal) -> bool
+fn begins_type(names: &TypedefNames, token: Terminal) -> bool
     ensures { result ≡ spec.begins_type names.now token }
 {
     may_begin(Rule::Squals, names.fresh_kind(token))
 }
 
 /// Whether `(` and the first token of a type name come next.
-fn sees_type_name(names: &Names, tokens: &[Terminal]) -> bool
+fn sees_type_name(names: &TypedefNames, tokens: &[Terminal]) -> bool
     ensures { result ≡ spec.sees_type_name names.now tokens.now }
 {
     match tokens {
@@ -290,7 +292,7 @@ fn sees_type_name(names: &Names, tokens: &[Terminal]) -> bool
 }
 
 /// Whether a type name in parentheses comes next, and no `{` behind it.
-fn sees_cast(names: &Names, tokens: &[Terminal]) -> bool
+fn sees_cast(names: &TypedefNames, tokens: &[Terminal]) -> bool
     ensures { result ≡ spec.sees_cast names.now tokens.now }
 {
     sees_type_name(names, tokens) && !sees(kinds::OPEN_BRACE, past_brackets(tokens))
@@ -336,22 +338,10 @@ fn in_group(depth: usize) -> Within
 }
 
 /// Whether the word is a type specifier by itself.
-#[tactic(auto, unfolding(c_model::specs::GrammarForm::mem))]
 fn is_type_word(kind: u8) -> bool
     ensures { result ≡ spec.is_type_word kind }
 {
-    matches!(
-        kind,
-        kinds::VOID
-            | kinds::CHAR
-            | kinds::SHORT
-            | kinds::INT
-            | kinds::LONG
-            | kinds::SIGNED
-            | kinds::UNSIGNED
-            | kinds::BOOL
-            | kinds::OLD_BOOL
-    )
+    is_one(TYPE_WORDS, kind)
 }
 
 /// What is behind a word of a specifier.
@@ -413,7 +403,7 @@ fn head_step(rule: Rule, is_struct: bool, kind: u8) -> Option<Within>
 }
 
 /// What is behind an identifier among specifiers.
-fn name_step(typed: bool, names: &Names, token: Terminal) -> Option<Within>
+fn name_step(typed: bool, names: &TypedefNames, token: Terminal) -> Option<Within>
     ensures place { result ≡ spec.name_step typed names.now token }
     ensures grown { IfSome result (λ next. spec.within next ≤ 1) }
 {
@@ -425,7 +415,7 @@ fn name_step(typed: bool, names: &Names, token: Terminal) -> Option<Within>
 }
 
 /// What is behind a token between two specifiers.
-fn between_step(rule: Rule, typed: bool, names: &Names, token: Terminal) -> Option<Within>
+fn between_step(rule: Rule, typed: bool, names: &TypedefNames, token: Terminal) -> Option<Within>
     ensures place { result ≡ spec.between_step rule typed names.now token }
     ensures grown { IfSome result (λ next. spec.within next ≤ 1) }
 {
@@ -437,7 +427,7 @@ fn between_step(rule: Rule, typed: bool, names: &Names, token: Terminal) -> Opti
 }
 
 /// What is behind a token in the type list of an enumeration, before its type specifiers.
-fn colon_step(rule: Rule, names: &Names, token: Terminal) -> Option<Within>
+fn colon_step(rule: Rule, names: &TypedefNames, token: Terminal) -> Option<Within>
     ensures place { result ≡ spec.colon_step rule names.now token }
     ensures grown { IfSome result (λ next. spec.within next ≤ 1) }
 {
@@ -463,8 +453,13 @@ fn typeof_step(kind: u8) -> Option<Within>
 }
 
 /// Where what is behind a token among the specifiers of such a nonterminal stands.
-#[tactic(auto, unfolding(c_model::specs::ParserTests::specifier_step))]
-fn specifier_step(rule: Rule, place: Within, names: &Names, token: Terminal) -> Option<Within>
+#[tactic(auto, unfolding(grammar_laws::specs::ParserTests::specifier_step))]
+fn specifier_step(
+    rule: Rule,
+    place: Within,
+    names: &TypedefNames,
+    token: Terminal,
+) -> Option<Within>
     requires { spec.within place < 2 ^ 63 }
     ensures place { result ≡ spec.specifier_step rule place names.now token }
     ensures grown { IfSome result (λ next. spec.within next ≤ spec.within place + 1) }
@@ -483,8 +478,8 @@ fn specifier_step(rule: Rule, place: Within, names: &Names, token: Terminal) -> 
 }
 
 /// What is behind the specifiers, where a type specifier may stand before them.
-#[tactic(auto, unfolding(c_model::specs::ParserTests::past_specifiers))]
-fn past_specifiers<'a>(typed: bool, names: &Names, tokens: &'a [Terminal]) -> &'a [Terminal]
+#[tactic(auto, unfolding(grammar_laws::specs::ParserTests::past_specifiers))]
+fn past_specifiers<'a>(typed: bool, names: &TypedefNames, tokens: &'a [Terminal]) -> &'a [Terminal]
     ensures { result.now ≡ spec.past_specifiers (within.Between typed) names.now tokens.now }
 {
     let mut rest = tokens;
@@ -517,7 +512,7 @@ fn ends_declarator(depth: usize, kind: u8) -> bool
 }
 
 /// What is behind the declarator.
-#[tactic(auto, unfolding(c_model::specs::ParserTests::past_declarator))]
+#[tactic(auto, unfolding(grammar_laws::specs::ParserTests::past_declarator))]
 fn past_declarator(tokens: &[Terminal]) -> &[Terminal]
     ensures { result.now ≡ spec.past_declarator 0 tokens.now }
 {
@@ -538,7 +533,7 @@ fn past_declarator(tokens: &[Terminal]) -> &[Terminal]
 }
 
 /// Whether behind attributes, specifiers and a declarator stands `{`.
-fn sees_function(names: &Names, tokens: &[Terminal]) -> bool
+fn sees_function(names: &TypedefNames, tokens: &[Terminal]) -> bool
     ensures { result ≡ spec.sees_function names.now tokens.now }
 {
     if !specifies(names, tokens) {
@@ -561,7 +556,12 @@ fn are_enumerators(place: Within, named: bool) -> bool
 }
 
 /// Whether the token is the `{` of an enumeration whose type stands before it.
-fn opens_enumerators(place: Within, names: &Names, first: Terminal, rest: &[Terminal]) -> bool
+fn opens_enumerators(
+    place: Within,
+    names: &TypedefNames,
+    first: Terminal,
+    rest: &[Terminal],
+) -> bool
     ensures { result ≡ spec.opens_enumerators place names.now first rest.now }
 {
     first.kind == kinds::OPEN_BRACE && are_enumerators(place, sees_name(names, rest))
@@ -598,8 +598,8 @@ fn waiting_behind(waiting: usize, takes: bool, awaits: bool) -> usize
 }
 
 /// Whether in the list that goes on behind a type specifier braces come that no enumeration takes.
-#[tactic(auto, unfolding(c_model::specs::ParserTests::lacks_enumeration))]
-fn lacks_enumeration(names: &Names, tokens: &[Terminal]) -> bool
+#[tactic(auto, unfolding(grammar_laws::specs::ParserTests::lacks_enumeration))]
+fn lacks_enumeration(names: &TypedefNames, tokens: &[Terminal]) -> bool
     ensures { result ≡ spec.lacks_enumeration names.now.reading.waiting (within.Between true) names.now tokens.now }
 {
     let mut rest = tokens;
@@ -622,7 +622,7 @@ fn lacks_enumeration(names: &Names, tokens: &[Terminal]) -> bool
 }
 
 /// Whether behind the tag of an enumeration come braces that no other takes.
-fn takes_braces(names: &Names, tokens: &[Terminal]) -> bool
+fn takes_braces(names: &TypedefNames, tokens: &[Terminal]) -> bool
     ensures { result ≡ spec.takes_braces names.now tokens.now }
 {
     (sees(kinds::OPEN_BRACE, tokens) || sees(kinds::COLON, tokens))
@@ -630,7 +630,7 @@ fn takes_braces(names: &Names, tokens: &[Terminal]) -> bool
 }
 
 /// Whether braces come that are no enumeration's that waits for its own.
-fn sees_members(names: &Names, tokens: &[Terminal]) -> bool
+fn sees_members(names: &TypedefNames, tokens: &[Terminal]) -> bool
     ensures { result ≡ spec.sees_members names.now tokens.now }
 {
     match split(tokens) {
@@ -642,7 +642,7 @@ fn sees_members(names: &Names, tokens: &[Terminal]) -> bool
 }
 
 /// Whether enumerators come, or no tag.
-fn has_enumerators(names: &Names, tokens: &[Terminal]) -> bool
+fn has_enumerators(names: &TypedefNames, tokens: &[Terminal]) -> bool
     ensures { result ≡ spec.has_enumerators names.now tokens.now }
 {
     match split(tokens) {
@@ -652,7 +652,7 @@ fn has_enumerators(names: &Names, tokens: &[Terminal]) -> bool
 }
 
 /// Whether the test holds.
-pub fn passes(test: Test, names: &Names, tokens: &[Terminal]) -> bool
+pub fn passes(test: Test, names: &TypedefNames, tokens: &[Terminal]) -> bool
     ensures { result ≡ spec.passes test names.now tokens.now }
 {
     match test {

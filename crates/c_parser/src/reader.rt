@@ -1,31 +1,32 @@
 //! The reading of the parser's table.
 
 ghost use Rattle.std.specs.Prelude.{◌≡◌, ◌++◌, OnOk, slice_get};
-ghost use Rattle.c_model.specs.GrammarForm as shape;
-ghost use Rattle.c_model.specs.GrammarForm.{mem, word, many, loop};
-ghost use Rattle.c_model.specs.DecidedTable as decided;
-ghost use Rattle.c_model.specs.LeftWeights.{IsWalkable};
-ghost use Rattle.c_model.specs.ParserWalk as walk;
-ghost use Rattle.c_model.specs.ParserSets.{tables};
-ghost use Rattle.c_model.specs.ParserTests.{parsed};
-ghost use Rattle.c_model.specs.SyntaxActions.{node_value};
-ghost use Rattle.c_model.specs.SyntaxValues.{token_value};
+ghost use Rattle.model_grammar.specs.GrammarForm as shape;
+ghost use Rattle.model_grammar.specs.GrammarForm.{mem, word, many, loop};
+ghost use Rattle.grammar_laws.specs.FirstTokens as decided;
+ghost use Rattle.grammar_laws.specs.apparatus.LeftWeights.{IsWalkable};
+ghost use Rattle.grammar_laws.specs.ParserWalk as walk;
+ghost use Rattle.grammar_laws.specs.ParserSets.{tables};
+ghost use Rattle.grammar_laws.specs.ParserTests.{parsed};
+ghost use Rattle.model_grammar.specs.SyntaxActions.{node_value};
+ghost use Rattle.model_grammar.specs.SyntaxValues.{token_value};
 ghost use Rattle.c_parser.specs.View.{form};
 ghost use Rattle.c_parser.specs.Reading.{Told, ToldTurn};
 ghost use Rattle.c_parser.specs.TreeValues.{only_if};
-ghost use Rattle.syntax_actions.specs.Meanings.{values_seen};
+ghost use Rattle.syntax_meanings.specs.Meanings.{values_seen};
 
 use crate::forms::{Form, body};
 use crate::heights::{Context, Heights};
 use crate::lookahead::{passes, split};
-use crate::names::Names;
 use crate::sets::{is_hollow, is_one, may_begin};
-use c_model::grammar::{Act, Rule, Terminal, Test};
+use crate::typedef_names::TypedefNames;
 use c_tokens::CList;
 use cake_base::NoMemory;
+use model_grammar::grammar::{Act, Rule, Terminal, Test};
 use sqlite_items::Items;
-use std::alloc::{AllocError, Global};
-use syntax_actions::{Value, leaf, node};
+use std::alloc::Global;
+use syntax_actions::node;
+use syntax_meanings::{Value, leaf};
 
 /// Why reading stopped.
 #[derive(Clone, Copy, Debug, PartialEq, Eq)]
@@ -36,17 +37,6 @@ pub enum Stop {
     Deep,
     /// The next token is not in its place, or the tokens end too early.
     Fault,
-}
-
-impl From<AllocError> for Stop {
-    ghost use Rattle.std.specs.Prelude.{◌≡◌};
-    ghost use Rattle.c_parser.specs.declared.reader.Stop.TheVariants.{Memory};
-
-    ghost from_gives = { λ _ e. e ≡ Memory };
-
-    fn from(_error: AllocError) -> Stop {
-        Stop::Memory
-    }
 }
 
 impl From<NoMemory> for Stop {
@@ -64,13 +54,13 @@ impl From<NoMemory> for Stop {
 #[derive(Debug, Drop)]
 pub struct Reader<'a> {
     pub rest: &'a [Terminal],
-    pub names: Names,
+    pub names: TypedefNames,
     pub heights: Heights,
 }
 
 impl<'a> Reader<'a> {
     /// The kind of the next token, or 0 at the end.
-    #[tactic(auto, unfolding(c_model::specs::ParserWalk::ahead))]
+    #[tactic(auto, unfolding(grammar_laws::specs::ParserWalk::ahead))]
     fn ahead(&self) -> u8
         ensures { result ≡ walk.ahead tables parsed self.now.names self.now.rest.now }
     {
@@ -114,7 +104,7 @@ impl<'a> Reader<'a> {
 }
 
 /// Whether the form derives no token, too.
-#[tactic(auto, unfolding(c_model::specs::DecidedTable::nullable))]
+#[tactic(auto, unfolding(grammar_laws::specs::FirstTokens::nullable))]
 fn nullable(f: &Form) -> bool
     ensures { result ≡ decided.nullable tables (form f.now) }
 {
@@ -132,7 +122,7 @@ fn nullable(f: &Form) -> bool
 }
 
 /// Whether the form may begin with what comes next.
-#[tactic(auto, using(c_model::proofs::KindSets::mem_append, c_model::proofs::KindSets::mem_then), unfolding(c_model::specs::DecidedTable::first, c_model::specs::GrammarForm::mem))]
+#[tactic(auto, using(grammar_laws::proofs::kinds::KindSets::mem_append, grammar_laws::proofs::kinds::KindSets::mem_then), unfolding(grammar_laws::specs::FirstTokens::first, model_grammar::specs::GrammarForm::mem))]
 fn begins(f: &Form, ahead: u8) -> bool
     ensures { result ≡ mem ahead (decided.first tables (form f.now)) }
 {
@@ -150,7 +140,7 @@ fn begins(f: &Form, ahead: u8) -> bool
 }
 
 /// Whether the first of two alternatives is taken.
-#[tactic(auto, unfolding(c_model::specs::ParserWalk::goes_left))]
+#[tactic(auto, unfolding(grammar_laws::specs::ParserWalk::goes_left))]
 fn goes_left(f: &Form, g: &Form, ahead: u8) -> bool
     ensures { result ≡ walk.goes_left tables parsed (form f.now) (form g.now) ahead }
 {

@@ -1,16 +1,16 @@
 //! The first tokens of the nonterminals, as in the parser's sets.
 
 ghost use Rattle.std.specs.Prelude.{◌≡◌, ◌||◌};
-ghost use Rattle.c_model.specs.GrammarForm.{mem};
-ghost use Rattle.c_model.specs.ParserSets as spec;
-ghost use Rattle.c_model.specs.DepthPlace as depth;
-ghost use Rattle.c_model.specs.Grammar as grammar;
-ghost use Rattle.c_model.specs.declared.grammar.Rule.TheVariants as rule;
+ghost use Rattle.model_grammar.specs.GrammarForm.{mem};
+ghost use Rattle.grammar_laws.specs.ParserSets as spec;
+ghost use Rattle.model_grammar.specs.declared.grammar.Rule.TheVariants as rule;
 
-use c_model::grammar::Rule;
+use crate::kind_groups::{NON_BRACKETS, QUALIFIERS, STATEMENT_STARTS, TYPE_WORDS, UNARY_OPERATORS};
+use model_grammar::grammar::Rule;
+use syntax_meanings::kinds;
 
 /// Whether the kind is one of these.
-#[tactic(auto, unfolding(c_model::specs::GrammarForm::mem))]
+#[tactic(auto, unfolding(model_grammar::specs::GrammarForm::mem))]
 pub fn is_one(kinds: &[u8], kind: u8) -> bool
     ensures { result ≡ mem kind kinds.now }
 {
@@ -23,7 +23,7 @@ pub fn is_one(kinds: &[u8], kind: u8) -> bool
 }
 
 /// Whether the nonterminal derives no token, too.
-#[tactic(auto, unfolding(c_model::specs::ParserSets::hollow))]
+#[tactic(auto, unfolding(grammar_laws::specs::ParserSets::hollow))]
 pub fn is_hollow(rule: Rule) -> bool
     ensures { result ≡ spec.hollow rule }
 {
@@ -33,456 +33,239 @@ pub fn is_hollow(rule: Rule) -> bool
     }
 }
 
-/// Whether the nonterminal counts as a part.
-#[tactic(auto, unfolding(c_model::specs::Grammar::is_part))]
-pub fn is_part(rule: Rule) -> bool
-    ensures { result ≡ grammar.is_part rule }
+/// Whether a static assertion may begin with a token of this kind.
+#[tactic(auto, unfolding(grammar_laws::specs::ParserSets::firsts))]
+fn begins_assertion(ahead: u8) -> bool
+    ensures { result ≡ mem ahead (spec.firsts rule.Sassert) }
 {
-    match rule {
-        Rule::Struct
-        | Rule::Enum
-        | Rule::Declarator
-        | Rule::Abstract
-        | Rule::Braces
-        | Rule::Block
-        | Rule::Statement
-        | Rule::Expr
-        | Rule::Assign
-        | Rule::Cond
-        | Rule::Cast
-        | Rule::Unary
-        | Rule::Typeof => true,
-        _ => false,
-    }
+    is_one(&[kinds::STATIC_ASSERT, kinds::OLD_STATIC_ASSERT], ahead)
 }
 
-/// Whether the repetition in the nonterminal is a chain that is read from the left.
-pub fn is_chain(rule: Rule) -> bool
-    ensures { result ≡ depth.is_chain rule }
-{
-    match rule {
-        Rule::Oror
-        | Rule::Andand
-        | Rule::Bor
-        | Rule::Bxor
-        | Rule::Band
-        | Rule::Equal
-        | Rule::Rel
-        | Rule::Shift
-        | Rule::Sum
-        | Rule::Product
-        | Rule::Expr
-        | Rule::Postfix => true,
-        _ => false,
-    }
-}
-
-/// Whether `Unit` may begin with a token of this kind.
-#[tactic(auto, unfolding(c_model::specs::ParserSets::firsts, c_model::specs::GrammarForm::mem))]
-fn begins_unit(ahead: u8) -> bool
-    ensures { result ≡ mem ahead (spec.firsts rule.Unit) }
-{
-    matches!(
-        ahead,
-        1 | 2
-            | 3
-            | 4
-            | 5
-            | 6
-            | 7
-            | 8
-            | 9
-            | 10
-            | 11
-            | 12
-            | 13
-            | 14
-            | 15
-            | 16
-            | 17
-            | 18
-            | 19
-            | 20
-            | 21
-            | 22
-            | 23
-            | 24
-            | 25
-            | 26
-            | 27
-            | 28
-            | 68
-            | 112
-    )
-}
-
-/// Whether `Function` may begin with a token of this kind.
-#[tactic(auto, unfolding(c_model::specs::ParserSets::firsts, c_model::specs::GrammarForm::mem))]
-fn begins_function(ahead: u8) -> bool
-    ensures { result ≡ mem ahead (spec.firsts rule.Function) }
-{
-    matches!(
-        ahead,
-        3 | 4
-            | 5
-            | 6
-            | 7
-            | 8
-            | 9
-            | 10
-            | 11
-            | 12
-            | 13
-            | 14
-            | 15
-            | 16
-            | 17
-            | 18
-            | 19
-            | 20
-            | 21
-            | 22
-            | 23
-            | 24
-            | 25
-            | 26
-            | 27
-            | 28
-            | 68
-            | 112
-    )
-}
-
-/// Whether `Specs` may begin with a token of this kind.
-#[tactic(auto, unfolding(c_model::specs::ParserSets::firsts, c_model::specs::GrammarForm::mem))]
-fn begins_specs(ahead: u8) -> bool
-    ensures { result ≡ mem ahead (spec.firsts rule.Specs) }
-{
-    matches!(
-        ahead,
-        3 | 4
-            | 5
-            | 6
-            | 7
-            | 8
-            | 9
-            | 10
-            | 11
-            | 12
-            | 13
-            | 14
-            | 15
-            | 16
-            | 17
-            | 18
-            | 19
-            | 20
-            | 21
-            | 22
-            | 23
-            | 24
-            | 25
-            | 26
-            | 27
-            | 28
-            | 112
-    )
-}
-
-/// Whether `Storage` may begin with a token of this kind.
-#[tactic(auto, unfolding(c_model::specs::ParserSets::firsts, c_model::specs::GrammarForm::mem))]
+/// Whether a storage class specifier may begin with a token of this kind.
+#[tactic(auto, unfolding(grammar_laws::specs::ParserSets::firsts))]
 fn begins_storage(ahead: u8) -> bool
     ensures { result ≡ mem ahead (spec.firsts rule.Storage) }
 {
-    matches!(ahead, 5 | 6 | 7 | 8 | 9 | 10)
+    is_one(
+        &[
+            kinds::TYPEDEF,
+            kinds::EXTERN,
+            kinds::STATIC,
+            kinds::AUTO,
+            kinds::REGISTER,
+            kinds::CONSTEXPR,
+        ],
+        ahead,
+    )
 }
 
-/// Whether `Typespec` may begin with a token of this kind.
-#[tactic(auto, unfolding(c_model::specs::ParserSets::firsts, c_model::specs::GrammarForm::mem))]
-fn begins_typespec(ahead: u8) -> bool
+/// Whether a type specifier may begin with a token of this kind.
+#[tactic(auto, using(crate::proofs::FirstKinds::type_specifier))]
+fn begins_type_specifier(ahead: u8) -> bool
     ensures { result ≡ mem ahead (spec.firsts rule.Typespec) }
 {
-    matches!(
-        ahead,
-        11 | 12 | 13 | 14 | 15 | 16 | 17 | 18 | 19 | 20 | 21 | 27 | 28 | 112
-    )
+    is_one(TYPE_WORDS, ahead)
+        || is_one(
+            &[
+                kinds::TYPEOF,
+                kinds::TYPEOF_UNQUAL,
+                kinds::STRUCT,
+                kinds::ENUM,
+                kinds::TYPEDEF_NAME,
+            ],
+            ahead,
+        )
 }
 
-/// Whether `Qual` may begin with a token of this kind.
-#[tactic(auto, unfolding(c_model::specs::ParserSets::firsts, c_model::specs::GrammarForm::mem))]
-fn begins_qual(ahead: u8) -> bool
+/// Whether a type qualifier may begin with a token of this kind.
+#[tactic(auto, unfolding(grammar_laws::specs::ParserSets::firsts))]
+fn begins_qualifier(ahead: u8) -> bool
     ensures { result ≡ mem ahead (spec.firsts rule.Qual) }
 {
-    matches!(ahead, 22 | 23 | 24 | 25 | 26)
+    is_one(QUALIFIERS, ahead)
 }
 
-/// Whether `Squals` may begin with a token of this kind.
-#[tactic(auto, unfolding(c_model::specs::ParserSets::firsts, c_model::specs::GrammarForm::mem))]
-fn begins_squals(ahead: u8) -> bool
+/// Whether specifiers and qualifiers may begin with a token of this kind.
+#[tactic(auto, using(crate::proofs::FirstKinds::type_name))]
+fn begins_type_name(ahead: u8) -> bool
     ensures { result ≡ mem ahead (spec.firsts rule.Squals) }
 {
-    matches!(
-        ahead,
-        11 | 12
-            | 13
-            | 14
-            | 15
-            | 16
-            | 17
-            | 18
-            | 19
-            | 20
-            | 21
-            | 22
-            | 23
-            | 24
-            | 25
-            | 26
-            | 27
-            | 28
-            | 112
-    )
+    begins_type_specifier(ahead) || begins_qualifier(ahead)
 }
 
-/// Whether `Member` may begin with a token of this kind.
-#[tactic(auto, unfolding(c_model::specs::ParserSets::firsts, c_model::specs::GrammarForm::mem))]
+/// Whether declaration specifiers may begin with a token of this kind.
+#[tactic(auto, using(crate::proofs::FirstKinds::specifiers))]
+fn begins_specifier(ahead: u8) -> bool
+    ensures { result ≡ mem ahead (spec.firsts rule.Specs) }
+{
+    is_one(&[kinds::INLINE, kinds::NORETURN], ahead)
+        || begins_storage(ahead)
+        || begins_type_name(ahead)
+}
+
+/// Whether a parameter or a function definition may begin with a token of this kind.
+#[tactic(auto, using(crate::proofs::FirstKinds::parameter))]
+fn begins_parameter(ahead: u8) -> bool
+    ensures { result ≡ mem ahead (spec.firsts rule.Param) }
+{
+    ahead == kinds::OPEN_BRACKET || begins_specifier(ahead)
+}
+
+/// Whether a declaration may begin with a token of this kind.
+#[tactic(auto, using(crate::proofs::FirstKinds::declaration))]
+fn begins_declaration(ahead: u8) -> bool
+    ensures { result ≡ mem ahead (spec.firsts rule.Declaration) }
+{
+    begins_assertion(ahead) || begins_parameter(ahead)
+}
+
+/// Whether a member declaration may begin with a token of this kind.
+#[tactic(auto, using(crate::proofs::FirstKinds::member))]
 fn begins_member(ahead: u8) -> bool
     ensures { result ≡ mem ahead (spec.firsts rule.Member) }
 {
-    matches!(
+    ahead == kinds::OPEN_BRACKET || begins_assertion(ahead) || begins_type_name(ahead)
+}
+
+/// Whether a direct declarator may begin with a token of this kind.
+#[tactic(auto, unfolding(grammar_laws::specs::ParserSets::firsts))]
+fn begins_direct_declarator(ahead: u8) -> bool
+    ensures { result ≡ mem ahead (spec.firsts rule.Direct) }
+{
+    is_one(
+        &[kinds::OPEN_PARENTHESIS, kinds::NAME, kinds::DECLARED_NAME],
         ahead,
-        1 | 2
-            | 11
-            | 12
-            | 13
-            | 14
-            | 15
-            | 16
-            | 17
-            | 18
-            | 19
-            | 20
-            | 21
-            | 22
-            | 23
-            | 24
-            | 25
-            | 26
-            | 27
-            | 28
-            | 68
-            | 112
     )
 }
 
-/// Whether `Declarator` may begin with a token of this kind.
-#[tactic(auto, unfolding(c_model::specs::ParserSets::firsts, c_model::specs::GrammarForm::mem))]
+/// Whether a declarator may begin with a token of this kind.
+#[tactic(auto, using(crate::proofs::FirstKinds::declarator))]
 fn begins_declarator(ahead: u8) -> bool
     ensures { result ≡ mem ahead (spec.firsts rule.Declarator) }
 {
-    matches!(ahead, 66 | 74 | 111 | 113)
+    ahead == kinds::STAR || begins_direct_declarator(ahead)
 }
 
-/// Whether `Direct` may begin with a token of this kind.
-#[tactic(auto, unfolding(c_model::specs::ParserSets::firsts, c_model::specs::GrammarForm::mem))]
-fn begins_direct(ahead: u8) -> bool
-    ensures { result ≡ mem ahead (spec.firsts rule.Direct) }
-{
-    matches!(ahead, 66 | 111 | 113)
-}
-
-/// Whether `Abstract` may begin with a token of this kind.
-#[tactic(auto, unfolding(c_model::specs::ParserSets::firsts, c_model::specs::GrammarForm::mem))]
+/// Whether an abstract declarator may begin with a token of this kind.
+#[tactic(auto, unfolding(grammar_laws::specs::ParserSets::firsts))]
 fn begins_abstract(ahead: u8) -> bool
     ensures { result ≡ mem ahead (spec.firsts rule.Abstract) }
 {
-    matches!(ahead, 66 | 68 | 74)
-}
-
-/// Whether `Init` may begin with a token of this kind.
-#[tactic(auto, unfolding(c_model::specs::ParserSets::firsts, c_model::specs::GrammarForm::mem))]
-fn begins_init(ahead: u8) -> bool
-    ensures { result ≡ mem ahead (spec.firsts rule.Init) }
-{
-    matches!(
+    is_one(
+        &[kinds::OPEN_PARENTHESIS, kinds::OPEN_BRACKET, kinds::STAR],
         ahead,
-        41 | 42
-            | 43
-            | 44
-            | 45
-            | 46
-            | 66
-            | 70
-            | 74
-            | 92
-            | 101
-            | 102
-            | 105
-            | 106
-            | 107
-            | 108
-            | 111
-            | 114
-            | 115
     )
 }
 
-/// Whether `Item` may begin with a token of this kind.
-#[tactic(auto, unfolding(c_model::specs::ParserSets::firsts, c_model::specs::GrammarForm::mem))]
+/// Whether a primary expression may begin with a token of this kind.
+#[tactic(auto, unfolding(grammar_laws::specs::ParserSets::firsts))]
+fn begins_primary(ahead: u8) -> bool
+    ensures { result ≡ mem ahead (spec.firsts rule.Primary) }
+{
+    is_one(
+        &[
+            kinds::TRUE,
+            kinds::FALSE,
+            kinds::NULLPTR,
+            kinds::OPEN_PARENTHESIS,
+            kinds::NAME,
+            kinds::INTEGER,
+            kinds::STRING_LITERAL,
+        ],
+        ahead,
+    )
+}
+
+/// Whether an expression may begin with a token of this kind.
+fn begins_expression(ahead: u8) -> bool
+    ensures { result ≡ mem ahead (spec.firsts rule.Expr) }
+{
+    is_one(UNARY_OPERATORS, ahead) || begins_primary(ahead)
+}
+
+/// Whether an initializer may begin with a token of this kind.
+#[tactic(auto, using(crate::proofs::FirstKinds::initializer))]
+fn begins_initializer(ahead: u8) -> bool
+    ensures { result ≡ mem ahead (spec.firsts rule.Init) }
+{
+    ahead == kinds::OPEN_BRACE || begins_expression(ahead)
+}
+
+/// Whether a designator may begin with a token of this kind.
+#[tactic(auto, unfolding(grammar_laws::specs::ParserSets::firsts))]
+fn begins_designator(ahead: u8) -> bool
+    ensures { result ≡ mem ahead (spec.firsts rule.Desig) }
+{
+    is_one(&[kinds::OPEN_BRACKET, kinds::DOT], ahead)
+}
+
+/// Whether an item of a braced initializer may begin with a token of this kind.
+#[tactic(auto, using(crate::proofs::FirstKinds::item))]
 fn begins_item(ahead: u8) -> bool
     ensures { result ≡ mem ahead (spec.firsts rule.Item) }
 {
-    matches!(
-        ahead,
-        41 | 42
-            | 43
-            | 44
-            | 45
-            | 46
-            | 66
-            | 68
-            | 70
-            | 74
-            | 76
-            | 92
-            | 101
-            | 102
-            | 105
-            | 106
-            | 107
-            | 108
-            | 111
-            | 114
-            | 115
-    )
+    begins_designator(ahead) || begins_initializer(ahead)
 }
 
-/// Whether `Label` may begin with a token of this kind.
-#[tactic(auto, unfolding(c_model::specs::ParserSets::firsts, c_model::specs::GrammarForm::mem))]
+/// Whether a label may begin with a token of this kind.
+#[tactic(auto, unfolding(grammar_laws::specs::ParserSets::firsts))]
 fn begins_label(ahead: u8) -> bool
     ensures { result ≡ mem ahead (spec.firsts rule.Label) }
 {
-    matches!(ahead, 29 | 30 | 68)
+    is_one(&[kinds::CASE, kinds::DEFAULT, kinds::OPEN_BRACKET], ahead)
 }
 
-/// Whether `Statement` may begin with a token of this kind.
-#[tactic(auto, unfolding(c_model::specs::ParserSets::firsts, c_model::specs::GrammarForm::mem))]
+/// Whether a statement may begin with a token of this kind.
 fn begins_statement(ahead: u8) -> bool
     ensures { result ≡ mem ahead (spec.firsts rule.Statement) }
 {
-    matches!(
-        ahead,
-        31 | 33
-            | 34
-            | 35
-            | 36
-            | 37
-            | 38
-            | 39
-            | 40
-            | 41
-            | 42
-            | 43
-            | 44
-            | 45
-            | 46
-            | 65
-            | 66
-            | 68
-            | 70
-            | 74
-            | 92
-            | 101
-            | 102
-            | 105
-            | 106
-            | 107
-            | 108
-            | 111
-            | 114
-            | 115
-    )
+    is_one(STATEMENT_STARTS, ahead) || begins_expression(ahead)
 }
 
-/// Whether `Expr` may begin with a token of this kind.
-#[tactic(auto, unfolding(c_model::specs::ParserSets::firsts, c_model::specs::GrammarForm::mem))]
-fn begins_expr(ahead: u8) -> bool
-    ensures { result ≡ mem ahead (spec.firsts rule.Expr) }
-{
-    matches!(
-        ahead,
-        41 | 42
-            | 43
-            | 44
-            | 45
-            | 46
-            | 66
-            | 74
-            | 92
-            | 101
-            | 102
-            | 105
-            | 106
-            | 107
-            | 108
-            | 111
-            | 114
-            | 115
-    )
-}
-
-/// Whether `Postfix` may begin with a token of this kind.
-#[tactic(auto, unfolding(c_model::specs::ParserSets::firsts, c_model::specs::GrammarForm::mem))]
-fn begins_postfix(ahead: u8) -> bool
-    ensures { result ≡ mem ahead (spec.firsts rule.Postfix) }
-{
-    matches!(ahead, 44 | 45 | 46 | 66 | 111 | 114 | 115)
-}
-
-/// The kinds with which a token inside an attribute may come.
-const BALANCED: &[u8] = &[
-    1, 2, 3, 4, 5, 6, 7, 8, 9, 10, 11, 12, 13, 14, 15, 16, 17, 18, 19, 20, 21, 22, 23, 24, 25, 26,
-    27, 28, 29, 30, 31, 32, 33, 34, 35, 36, 37, 38, 39, 40, 41, 42, 43, 44, 45, 46, 47, 48, 49, 50,
-    51, 52, 53, 54, 55, 56, 57, 58, 59, 60, 61, 62, 63, 64, 65, 66, 68, 70, 72, 73, 74, 75, 76, 77,
-    78, 79, 80, 81, 82, 83, 84, 85, 86, 87, 88, 89, 90, 91, 92, 93, 94, 95, 96, 97, 98, 99, 100,
-    101, 102, 103, 104, 105, 106, 107, 108, 109, 110, 111, 112, 113, 114, 115, 116,
-];
-
-/// Whether `Balanced` may begin with a token of this kind.
-#[tactic(auto, unfolding(c_model::specs::ParserSets::firsts))]
+/// Whether what an attribute holds may begin with a token of this kind.
 fn begins_balanced(ahead: u8) -> bool
     ensures { result ≡ mem ahead (spec.firsts rule.Balanced) }
 {
-    is_one(BALANCED, ahead)
+    is_one(NON_BRACKETS, ahead)
+        || is_one(
+            &[
+                kinds::OPEN_PARENTHESIS,
+                kinds::OPEN_BRACKET,
+                kinds::OPEN_BRACE,
+                kinds::CLOSING,
+            ],
+            ahead,
+        )
 }
 
 /// Whether the nonterminal may begin with a token of this kind, where 0 is the end of the tokens.
-#[tactic(auto, unfolding(c_model::specs::ParserSets::firsts, c_model::specs::GrammarForm::mem))]
+#[tactic(auto, unfolding(grammar_laws::specs::ParserSets::firsts, model_grammar::specs::GrammarForm::mem))]
 pub fn may_begin(rule: Rule, ahead: u8) -> bool
     ensures { result ≡ mem ahead (spec.firsts rule) }
 {
     match rule {
-        Rule::Unit | Rule::External | Rule::Declaration => begins_unit(ahead),
-        Rule::Function | Rule::Params | Rule::Param => begins_function(ahead),
-        Rule::Sassert => ahead == 1 || ahead == 2,
-        Rule::Attrs | Rule::Attr => ahead == 68,
-        Rule::Specs | Rule::Spec | Rule::ParamSpecs => begins_specs(ahead),
+        Rule::Unit | Rule::External | Rule::Declaration => begins_declaration(ahead),
+        Rule::Function | Rule::Params | Rule::Param => begins_parameter(ahead),
+        Rule::Sassert => begins_assertion(ahead),
+        Rule::Attrs | Rule::Attr => ahead == kinds::OPEN_BRACKET,
+        Rule::Specs | Rule::Spec | Rule::ParamSpecs => begins_specifier(ahead),
         Rule::Storage => begins_storage(ahead),
-        Rule::Typespec => begins_typespec(ahead),
-        Rule::Qual => begins_qual(ahead),
-        Rule::Squals | Rule::Typename => begins_squals(ahead),
-        Rule::Struct => ahead == 27,
-        Rule::Members | Rule::Braces | Rule::Block | Rule::Body => ahead == 70,
+        Rule::Typespec => begins_type_specifier(ahead),
+        Rule::Qual => begins_qualifier(ahead),
+        Rule::Squals | Rule::Typename => begins_type_name(ahead),
+        Rule::Struct => ahead == kinds::STRUCT,
+        Rule::Members | Rule::Braces | Rule::Block | Rule::Body => ahead == kinds::OPEN_BRACE,
         Rule::Member => begins_member(ahead),
-        Rule::Enum => ahead == 28,
-        Rule::Enumr => ahead == 111,
+        Rule::Enum => ahead == kinds::ENUM,
+        Rule::Enumr => ahead == kinds::NAME,
         Rule::Declarator | Rule::Initdecl | Rule::Declared => begins_declarator(ahead),
-        Rule::Direct => begins_direct(ahead),
-        Rule::Suffix | Rule::Adirect => ahead == 66 || ahead == 68,
+        Rule::Direct => begins_direct_declarator(ahead),
+        Rule::Suffix | Rule::Adirect => ahead == kinds::OPEN_PARENTHESIS
+            || ahead == kinds::OPEN_BRACKET,
         Rule::Abstract => begins_abstract(ahead),
-        Rule::Init => begins_init(ahead),
+        Rule::Init => begins_initializer(ahead),
         Rule::Item => begins_item(ahead),
-        Rule::Desig => ahead == 68 || ahead == 76,
+        Rule::Desig => begins_designator(ahead),
         Rule::Label => begins_label(ahead),
         Rule::Statement => begins_statement(ahead),
         Rule::Expr
@@ -499,12 +282,12 @@ pub fn may_begin(rule: Rule, ahead: u8) -> bool
         | Rule::Sum
         | Rule::Product
         | Rule::Cast
-        | Rule::Unary => begins_expr(ahead),
-        Rule::Postfix | Rule::Primary => begins_postfix(ahead),
-        Rule::Literal => ahead == 66,
+        | Rule::Unary => begins_expression(ahead),
+        Rule::Postfix | Rule::Primary => begins_primary(ahead),
+        Rule::Literal => ahead == kinds::OPEN_PARENTHESIS,
         Rule::Balanced => begins_balanced(ahead),
-        Rule::Typeof => ahead == 20 || ahead == 21,
-        Rule::If => ahead == 31,
-        Rule::For => ahead == 36,
+        Rule::Typeof => ahead == kinds::TYPEOF || ahead == kinds::TYPEOF_UNQUAL,
+        Rule::If => ahead == kinds::IF,
+        Rule::For => ahead == kinds::FOR,
     }
 }

@@ -1,16 +1,16 @@
 //! The tokens of C as the grammar sees them.
 
 ghost use Rattle.std.specs.Prelude.{◌≡◌, IfOk};
-ghost use Rattle.c_model.specs.TerminalsOf as spec;
+ghost use Rattle.model_grammar.specs.TerminalsOf as spec;
 ghost use Rattle.c_parser.specs.Ranks.{number_behind, with_kind};
 
 use crate::ranks::Ranks;
-use c_model::grammar::Terminal;
 use c_tokens::{CKind, CList, CTok};
 use cake_base::NoMemory;
+use model_grammar::grammar::Terminal;
 use sqlite_items::Items;
 use std::alloc::Global;
-use syntax_actions::kind_number;
+use syntax_meanings::kind_number;
 
 /// The number of an identifier, which is the rank of the first token of its spelling, and 0 for another token.
 fn name_number<'a>(ranks: &mut Ranks<'a>, kind: &'a CKind, rank: usize) -> Result<u32, NoMemory>
@@ -22,10 +22,7 @@ fn name_number<'a>(ranks: &mut Ranks<'a>, kind: &'a CKind, rank: usize) -> Resul
             Ok(rank) => ranks.first(spelling.as_slice(), rank),
             Err(_) => Err(NoMemory),
         },
-        CKind::Word(_) => Ok(0),
-        CKind::Integer(_) => Ok(0),
-        CKind::Text(_) => Ok(0),
-        CKind::Punct(_) => Ok(0),
+        CKind::Word(_) | CKind::Integer(_) | CKind::Text(_) | CKind::Punct(_) => Ok(0),
     }
 }
 

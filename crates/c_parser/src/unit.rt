@@ -4,17 +4,17 @@ ghost use Rattle.c_parser.specs.Parsing.{Parsed, UnitRead};
 
 use crate::forms::Form;
 use crate::heights::{Context, Heights};
-use crate::names::Names;
 use crate::reader::{Reader, Stop, read};
-use c_model::grammar::{Rule, Terminal};
+use crate::typedef_names::TypedefNames;
 use c_tokens::CList;
+use model_grammar::grammar::{Rule, Terminal};
 use sqlite_items::Items;
 use std::alloc::Global;
-use syntax_actions::Value;
+use syntax_meanings::Value;
 
 /// Why there is no tree.
 #[derive(Clone, Copy, Debug, PartialEq, Eq)]
-pub enum Refusal {
+pub enum UnitRefusal {
     /// There is no memory.
     Memory,
     /// M06: the token of this rank is the first that lies in more than 1,000 parts, or just before which a part ended that
@@ -33,12 +33,12 @@ fn read_unit<'t>(
     toks: &'t CList,
     tokens: &[Terminal],
     builds: bool,
-) -> Result<Items<Value<'t>>, Refusal>
+) -> Result<Items<Value<'t>>, UnitRefusal>
     ensures { UnitRead toks.now tokens.now builds result }
 {
     let mut reader = Reader {
         rest: tokens,
-        names: Names::new(alloc),
+        names: TypedefNames::new(alloc),
         heights: Heights::none(),
     };
     let mut values = Items::new(alloc);
@@ -52,13 +52,13 @@ fn read_unit<'t>(
     ) {
         Ok(()) => {
             if !reader.rest.is_empty() {
-                return Err(Refusal::Fault(tokens.len() - reader.rest.len()));
+                return Err(UnitRefusal::Fault(tokens.len() - reader.rest.len()));
             }
             Ok(values)
         }
-        Err(Stop::Fault) => Err(Refusal::Fault(tokens.len() - reader.rest.len())),
-        Err(Stop::Memory) => Err(Refusal::Memory),
-        Err(Stop::Deep) => Err(Refusal::Deep(tokens.len() - reader.rest.len())),
+        Err(Stop::Fault) => Err(UnitRefusal::Fault(tokens.len() - reader.rest.len())),
+        Err(Stop::Memory) => Err(UnitRefusal::Memory),
+        Err(Stop::Deep) => Err(UnitRefusal::Deep(tokens.len() - reader.rest.len())),
     }
 }
 
@@ -72,7 +72,7 @@ pub fn parse_terminals<'t>(
     alloc: Global,
     toks: &'t CList,
     tokens: &[Terminal],
-) -> Result<Value<'t>, Refusal>
+) -> Result<Value<'t>, UnitRefusal>
     ensures { Parsed toks.now tokens.now result }
 {
     // Nothing is built of a unit that is refused: what a chain of any length stands for is too deep to be dropped.

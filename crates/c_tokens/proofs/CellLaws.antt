@@ -1,8 +1,8 @@
 -- Bytes further on in the cells that are left.
 use Rattle.std.proofs.Common.{◌≡◌, ℕ, zero, suc, ◌+◌, ◌-◌, ◌<◌, List, [], ◌∷◌, ◌++◌, length, take, drop, slice_index, refl, sym, ap, ◌∙◌, arith, append_assoc}
 use Rattle.std.proofs.Math.Seq.{take-append-add}
-use Rattle.c_model.specs.declared.steps.Cell.{Cell}
-use Rattle.c_model.specs.JoinedLines.{bytes}
+use Rattle.model_tokens.specs.declared.steps.Cell.{Cell}
+use Rattle.model_tokens.specs.JoinedLines.{bytes}
 
 pub byte_further : (n k : ℕ) (cells : List Cell) → slice_index (bytes (drop n cells)) k ≡ slice_index (bytes cells) (n + k)
 byte_further zero k cells = let e : 0 + k ≡ k = omega arith in rw e refl

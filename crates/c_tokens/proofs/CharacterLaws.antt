@@ -1,9 +1,9 @@
 -- The characters of a text one by one.
 use Rattle.std.proofs.Common.{◌≡◌, ℕ, zero, suc, ◌-◌, ◌<◌, ◌≤◌, List, [], ◌∷◌, ◌++◌, length, drop, Option, Some, None, Result, Ok, Err, refl, sym, ap, ◌∙◌, arith, append_assoc}
-use Rattle.c_model.specs.declared.tokens.TokenRule.{TokenRule}
-use Rattle.c_model.specs.declared.tokens.TokenRule.TheVariants.{NotOneCharacter, BadEscape}
-use Rattle.c_model.specs.Characters.{characters, characters_from, character_value, character_length}
-use Rattle.c_model.specs.CTokens.{all_bytes, before_bytes, one_character}
+use Rattle.model_tokens.specs.declared.tokens.TokenRule.{TokenRule}
+use Rattle.model_tokens.specs.declared.tokens.TokenRule.TheVariants.{NotOneCharacter, BadEscape}
+use Rattle.model_tokens.specs.Characters.{characters, characters_from, character_value, character_length}
+use Rattle.model_tokens.specs.CTokens.{all_bytes, before_bytes, one_character}
 
 passed_over : (left : ℕ) (text : List ℕ) → characters_from left text ≡ characters (drop left text)
 passed_over zero text = refl

@@ -2,7 +2,7 @@
 use Rattle.std.proofs.Common.{◌≡◌, ℕ, zero, suc, ◌+◌, ◌*◌, ◌<◌, ◌≤◌, min, Bool, true, false, ◌==◌, if◌then◌else◌, List, [], ◌∷◌, length, drop, get_or, inl, inr, drop-cons, refl, sym, ap, ◌∙◌, arith}
 use Rattle.std.proofs.lemmas.Bool.Decides.{leb_tells}
 use native.Mathlib.Numerals.{unary_clauses}
-use Rattle.c_model.specs.Digits.{value_from, digit_value}
+use Rattle.model_tokens.specs.Digits.{value_from, digit_value}
 use Rattle.c_tokens.specs.Values.{next_value}
 
 grows : (radix value : ℕ) → 1 ≤ radix → value ≤ value * radix

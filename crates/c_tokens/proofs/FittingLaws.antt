@@ -1,16 +1,16 @@
 -- No type holds a value past 64 bits.
 use Rattle.std.proofs.Common.{◌≡◌, ℕ, ◌^◌, ◌<◌, ◌≤◌, min, Bool, true, false, ◌&&◌, inl, inr, if◌then◌else◌, List, [], ◌∷◌, length, drop, get_or, suc, drop-cons, Err, Option, Some, None, ℤ, pos, refl, sym, ap, ◌∙◌, arith, int_le}
-use Rattle.c_model.specs.declared.numbers.Basic.{Basic}
-use Rattle.c_model.specs.declared.numbers.Basic.TheVariants.{Bool as bool, Char, SignedChar, UnsignedChar, Short, UnsignedShort, Int, Unsigned, Long, UnsignedLong, LongLong, UnsignedLongLong}
-use Rattle.c_model.specs.declared.numbers.Const.{Const}
-use Rattle.c_model.specs.declared.constants.Base.{Base}
-use Rattle.c_model.specs.declared.constants.Suffix.{Suffix}
-use Rattle.c_model.specs.declared.tokens.TokenRule.TheVariants.{MalformedNumber}
+use Rattle.model_types.specs.declared.numbers.Basic.{Basic}
+use Rattle.model_types.specs.declared.numbers.Basic.TheVariants.{Bool as bool, Char, SignedChar, UnsignedChar, Short, UnsignedShort, Int, Unsigned, Long, UnsignedLong, LongLong, UnsignedLongLong}
+use Rattle.model_types.specs.declared.numbers.Const.{Const}
+use Rattle.model_tokens.specs.declared.constants.Base.{Base}
+use Rattle.model_tokens.specs.declared.constants.Suffix.{Suffix}
+use Rattle.model_tokens.specs.declared.tokens.TokenRule.TheVariants.{MalformedNumber}
 use Rattle.std.proofs.Math.Bool.{Bool-set}
 use Rattle.std.proofs.lemmas.Bool.Decides.{leb_tells}
-use Rattle.c_model.specs.Digits.{are_digits, value_from}
-use Rattle.c_model.specs.IntegerConstants.{constant_in, constant_if, first_fitting, or_else, fitting, constant_of, radix, types_of}
-use Rattle.c_model.specs.Operations.{fits, lowest}
+use Rattle.model_tokens.specs.Digits.{are_digits, value_from}
+use Rattle.model_tokens.specs.IntegerConstants.{constant_in, constant_if, first_fitting, or_else, fitting, constant_of, radix, types_of}
+use Rattle.model_types.specs.Operations.{fits, lowest}
 
 and_false : (p q : Bool) → q ≡ false → (p && q) ≡ false
 and_false true q e = e

@@ -7,5 +7,4 @@ pub mod NumberLaws
 pub mod DigitLaws
 pub mod FittingLaws
 pub mod CharacterLaws
-pub mod StringLaws
 pub mod WholeLaws

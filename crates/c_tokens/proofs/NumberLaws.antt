@@ -2,7 +2,7 @@
 use Rattle.std.proofs.Common.{◌≡◌, ℕ, ◌+◌, ◌<◌, ◌≤◌, Bool, true, false, ◌&&◌, ◌==◌, if◌then◌else◌, List, [], ◌∷◌, ◌++◌, length, map, Some, None, refl, sym, ap, ◌∙◌, arith, nat_le}
 use Rattle.std.specs.Str.{bytes_eq}
 use Rattle.std.proofs.lemmas.Bool.{leb-true}
-use Rattle.c_model.specs.Vocabulary.{number_in, word_number, punctuator_number, grammar_words, left_out_words, punctuators}
+use Rattle.model_types.specs.Vocabulary.{number_in, word_number, punctuator_number, grammar_words, left_out_words, punctuators}
 use Rattle.c_tokens.specs.Numbered.{number_under}
 use Rattle.c_tokens.specs.declared.words.TheConstants.{WORDS_OF_2, WORDS_OF_3, WORDS_OF_4, WORDS_OF_5, WORDS_OF_6, WORDS_OF_7, WORDS_OF_8, WORDS_OF_9, WORDS_OF_10, WORDS_OF_11, WORDS_OF_12, WORDS_OF_13, WORDS_OF_14, PUNCTUATORS_OF_1, PUNCTUATORS_OF_2, PUNCTUATORS_OF_3}
 use Rattle.c_tokens.proofs.TableLaws.{other_length}

@@ -1,8 +1,8 @@
 -- Bytes that are read as they stand come one by one, each a column further.
 use Rattle.std.proofs.Common.{◌≡◌, ℕ, zero, suc, ◌+◌, ◌<◌, ◌≤◌, Bool, true, false, not, ◌&&◌, ◌||◌, ◌==◌, List, [], ◌∷◌, ◌++◌, length, take, drop, get_or, refl, sym, ap, ◌∙◌, arith}
 use Rattle.std.proofs.lemmas.List.{take-append-drop, length-take-le}
-use Rattle.c_model.specs.declared.steps.Cell.{Cell}
-use Rattle.c_model.specs.JoinedLines.{bytes, cells_from}
+use Rattle.model_tokens.specs.declared.steps.Cell.{Cell}
+use Rattle.model_tokens.specs.JoinedLines.{bytes, cells_from}
 use Rattle.c_tokens.specs.Runs.{is_plain, all_plain}
 
 none_of : (p q r : Bool) → not (p || (q || r)) ≡ true → (p ≡ false) × (q ≡ false) × (r ≡ false)

@@ -2,7 +2,7 @@
 use Rattle.std.proofs.Common.{◌≡◌, ℕ, Bool, true, false, ◌||◌, ◌==◌, if◌then◌else◌, List, [], ◌∷◌, length, map, refl, sym, ap, ◌∙◌, eq-eqb, ◌++◌}
 use Rattle.std.specs.Str.{bytes_eq}
 use Rattle.std.proofs.lemmas.Slice.Eq.{bytes_eq-Decides}
-use Rattle.c_model.specs.Vocabulary.{stands_in, is_punctuator, preprocessing_punctuators, punctuators}
+use Rattle.model_types.specs.Vocabulary.{stands_in, is_punctuator, preprocessing_punctuators, punctuators}
 use Rattle.c_tokens.specs.declared.punctuators.TheConstants.{THREES, TWOS, ONES}
 
 -- the entries of this length

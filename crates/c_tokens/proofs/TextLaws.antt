@@ -1,15 +1,15 @@
 -- The tokens of a text step by step: what stands at the front, then the tokens of the rest.
 use Rattle.std.proofs.Common.{◌≡◌, ℕ, zero, suc, ◌+◌, ◌-◌, ◌≤◌, Bool, true, false, ◌&&◌, ◌==◌, List, [], ◌∷◌, ◌++◌, length, take, drop, Result, Ok, Err, refl, ap, sym, ◌∙◌, arith, append_assoc, length-append, cond}
 use Rattle.cake_base.specs.declared.rules.Fault.{Fault}
-use Rattle.c_model.specs.declared.steps.Cell.{Cell}
-use Rattle.c_model.specs.declared.steps.LinePart.{LinePart}
-use Rattle.c_model.specs.declared.steps.LinePart.TheVariants.{Start}
-use Rattle.c_model.specs.declared.steps.Step.{Step}
-use Rattle.c_model.specs.declared.steps.Step.TheVariants.{LineEnd, Blank, Token, OpenComment}
-use Rattle.c_model.specs.declared.tokens.PpKind.{PpKind}
-use Rattle.c_model.specs.JoinedLines.{bytes, cells_from, placed, without_returns, joined_from, ends_line}
-use Rattle.c_model.specs.PpSteps.{step_at}
-use Rattle.c_model.specs.PpTokens.{PpToken, tokens_from, tokens_of, before_rest, place_at, begins_line, line_after, token_fault}
+use Rattle.model_tokens.specs.declared.steps.Cell.{Cell}
+use Rattle.model_tokens.specs.declared.steps.LinePart.{LinePart}
+use Rattle.model_tokens.specs.declared.steps.LinePart.TheVariants.{Start}
+use Rattle.model_tokens.specs.declared.steps.Step.{Step}
+use Rattle.model_tokens.specs.declared.steps.Step.TheVariants.{LineEnd, Blank, Token, OpenComment}
+use Rattle.model_tokens.specs.declared.tokens.PpKind.{PpKind}
+use Rattle.model_tokens.specs.JoinedLines.{bytes, cells_from, placed, without_returns, joined_from, ends_line}
+use Rattle.model_tokens.specs.PpSteps.{step_at}
+use Rattle.model_tokens.specs.PpTokens.{PpToken, tokens_from, tokens_of, before_rest, place_at, begins_line, line_after, token_fault}
 
 placed-length : (line column : ℕ) (text : List ℕ) → length (placed line column text) ≡ length text
 placed-length line column [] = refl

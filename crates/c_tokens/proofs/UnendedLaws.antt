@@ -1,9 +1,9 @@
 -- Where a quote isn't ended on its line, none of its kind further on is.
 use Rattle.std.proofs.Common.{◌≡◌, ℕ, zero, suc, ◌+◌, ◌-◌, ◌<◌, Bool, true, false, not, ◌==◌, if◌then◌else◌, List, [], ◌∷◌, drop, slice_index, Option, Some, None, refl, sym, ap, ◌∙◌, subst, arith, eq-eqb}
 use Rattle.std.specs.List.{prefix_len}
-use Rattle.c_model.specs.declared.steps.Cell.{Cell}
-use Rattle.c_model.specs.JoinedLines.{bytes}
-use Rattle.c_model.specs.PpSteps.{closing, longer, is_in_line}
+use Rattle.model_tokens.specs.declared.steps.Cell.{Cell}
+use Rattle.model_tokens.specs.JoinedLines.{bytes}
+use Rattle.model_tokens.specs.PpSteps.{closing, longer, is_in_line}
 use Rattle.c_tokens.specs.Unended.{Barren, Knows}
 use Rattle.c_tokens.specs.declared.unended.Unended.{Unended}
 use Rattle.c_tokens.proofs.CellLaws.{bytes_drop, drop_further}

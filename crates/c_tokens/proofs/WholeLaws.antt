@@ -1,8 +1,8 @@
 -- The tokens of C of a list, one by one.
 use Rattle.std.proofs.Common.{◌≡◌, List, [], ◌∷◌, ◌++◌, Result, Ok, Err, refl, ap, sym, append_assoc}
 use Rattle.cake_base.specs.declared.rules.Fault.{Fault}
-use Rattle.c_model.specs.declared.tokens.CTok.{CTok}
-use Rattle.c_model.specs.CTokens.{before_tokens}
+use Rattle.model_tokens.specs.declared.tokens.CTok.{CTok}
+use Rattle.model_tokens.specs.CTokens.{before_tokens}
 
 -- tokens before those of the rest
 abbrev pub before_list : List CTok → Result (List CTok) Fault → Result (List CTok) Fault

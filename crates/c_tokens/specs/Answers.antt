@@ -1,7 +1,7 @@
 -- What a call answers is what a definition gives, unless memory was wanted.
 use Rattle.std.specs.Prelude.{◌≡◌, Result, Ok, Err}
 use Rattle.cake_base.specs.declared.rules.Fault.{Fault}
-use Rattle.c_model.specs.declared.tokens.TokenRule.{TokenRule}
+use Rattle.model_tokens.specs.declared.tokens.TokenRule.{TokenRule}
 use Rattle.c_tokens.specs.declared.errors.Refusal.{Refusal}
 use Rattle.c_tokens.specs.declared.errors.Refusal.TheVariants as refusal
 use Rattle.c_tokens.specs.declared.errors.TokenError.{TokenError}

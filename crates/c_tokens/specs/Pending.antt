@@ -1,9 +1,9 @@
 -- A string that the next one is joined to.
 use Rattle.std.specs.Prelude.{ℕ, Bool, true, false, List, [], ◌∷◌, ◌++◌, Option, Some, None}
 use Rattle.cake_base.specs.declared.places.Place.{Place}
-use Rattle.c_model.specs.declared.tokens.CKind.{CKind}
-use Rattle.c_model.specs.declared.tokens.CKind.TheVariants as kind_of
-use Rattle.c_model.specs.declared.tokens.CTok.{CTok}
+use Rattle.model_tokens.specs.declared.tokens.CKind.{CKind}
+use Rattle.model_tokens.specs.declared.tokens.CKind.TheVariants as kind_of
+use Rattle.model_tokens.specs.declared.tokens.CTok.{CTok}
 use Rattle.c_tokens.specs.declared.strings.Pending.{Pending}
 
 abbrev pub is_text : CKind → Bool

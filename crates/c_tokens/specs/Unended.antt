@@ -1,8 +1,8 @@
 -- Quotes that are known not to be ended on their line.
 use Rattle.std.specs.Prelude.{◌≡◌, ℕ, suc, ◌<◌, ◌≤◌, false, List, drop, slice_index, None}
-use Rattle.c_model.specs.PpSteps.{closing}
-use Rattle.c_model.specs.declared.steps.Step.{Step}
-use Rattle.c_model.specs.declared.steps.Step.TheVariants.{LineEnd, Blank, Token, OpenComment}
+use Rattle.model_tokens.specs.PpSteps.{closing}
+use Rattle.model_tokens.specs.declared.steps.Step.{Step}
+use Rattle.model_tokens.specs.declared.steps.Step.TheVariants.{LineEnd, Blank, Token, OpenComment}
 use Rattle.c_tokens.specs.declared.unended.Unended.{Unended}
 
 -- none of the next n bytes is a quote of this kind that is ended on its line

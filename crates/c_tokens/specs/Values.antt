@@ -1,6 +1,6 @@
 -- The value of digits, byte by byte.
 use Rattle.std.specs.Prelude.{ℕ, ◌+◌, ◌*◌, ◌==◌, if◌then◌else◌}
-use Rattle.c_model.specs.Digits.{digit_value}
+use Rattle.model_tokens.specs.Digits.{digit_value}
 
 -- the value after one more byte
 abbrev pub next_value : ℕ → ℕ → ℕ → ℕ

@@ -1,8 +1,8 @@
 //! Characters and escape sequences of literals.
 ghost use Rattle.std.specs.Prelude.{◌≡◌, ◌≤◌, ◌<◌, ◌+◌, length};
 ghost use Rattle.std.specs.List.{prefix_len};
-ghost use Rattle.c_model.specs.Characters as spec;
-ghost use Rattle.c_model.specs.Digits.{is_digit_of};
+ghost use Rattle.model_tokens.specs.Characters as spec;
+ghost use Rattle.model_tokens.specs.Digits.{is_digit_of};
 
 use crate::digits::{is_digit_of, value};
 use crate::slices::behind;

@@ -1,8 +1,8 @@
 //! The token of C that a preprocessing token is converted into.
 ghost use Rattle.std.specs.Prelude.{◌≡◌, [], ◌∷◌, Some};
-ghost use Rattle.c_model.specs.FloatingConstants.{is_floating};
-ghost use Rattle.c_model.specs.CTokens as spec;
-ghost use Rattle.c_model.specs.Characters.{characters};
+ghost use Rattle.model_tokens.specs.FloatingConstants.{is_floating};
+ghost use Rattle.model_tokens.specs.CTokens as spec;
+ghost use Rattle.model_tokens.specs.Characters.{characters};
 ghost use Rattle.c_tokens.specs.Answers.{Answers, Gives};
 
 use crate::characters::{character_length, character_value};
@@ -12,11 +12,11 @@ use crate::integers::{constant_in, integer_constant};
 use crate::literals::{content, is_quote, prefix_length};
 use crate::pp_token::PpTok;
 use crate::scan::{Class, is_in};
-use crate::slices::{behind, copied};
+use crate::slices::behind;
 use crate::words::{punctuator_number, word_number};
-use c_model::numbers::Basic;
-use c_model::tokens::{CKind, CTok, PpKind, TokenRule};
 use cake_base::{Bytes, Family, Fault, Rule};
+use model_tokens::tokens::{CKind, CTok, PpKind, TokenRule};
+use model_types::numbers::Basic;
 use std::alloc::Global;
 
 fn are_word_bytes(text: &[u8]) -> bool
@@ -30,7 +30,8 @@ fn are_word_bytes(text: &[u8]) -> bool
     true
 }
 
-fn is_identifier(text: &[u8]) -> bool
+/// Whether the text is an identifier, a keyword among them (ISO/IEC 9899:2024, 6.4.2.1).
+pub fn is_identifier(text: &[u8]) -> bool
     ensures { result ≡ spec.is_identifier text.now }
 {
     match text {
@@ -48,7 +49,7 @@ fn name_token(alloc: Global, text: &[u8]) -> Result<CKind, Refusal>
     match word_number(text) {
         Some(number) => Ok(CKind::Word(number)),
         None => {
-            let name = copied(alloc, text)?;
+            let name = Bytes::of(alloc, text)?;
             Ok(CKind::Name(name))
         }
     }
@@ -194,7 +195,7 @@ fn unless_broken(token: Result<CKind, TokenRule>) -> Result<CKind, Refusal>
     }
 }
 
-#[tactic(auto, unfolding(c_model::specs::CTokens::converted))]
+#[tactic(auto, unfolding(model_tokens::specs::CTokens::converted))]
 fn converted(alloc: Global, kind: PpKind, text: &[u8]) -> Result<CKind, Refusal>
     ensures { Gives result (spec.converted kind text.now) }
 {

@@ -1,9 +1,9 @@
 //! A reader over a text, which drops carriage returns and joins lines as it goes.
 ghost use Rattle.std.specs.Prelude.{◌≡◌, ◌+◌, ◌^◌, ◌<◌, ◌≤◌, [], ◌∷◌, ◌++◌, length, take, drop, MatchOption, true, false, ℕ};
-ghost use Rattle.c_model.specs.JoinedLines as spec;
+ghost use Rattle.model_tokens.specs.JoinedLines as spec;
 ghost use Rattle.c_tokens.specs.Runs as runs;
 
-use c_model::steps::Cell;
+use model_tokens::steps::Cell;
 use std::marker::Model;
 
 /// What is left to read of a text (ISO/IEC 9899:2024, 5.1.1.2 phases 1 and 2). Contracts see the
@@ -17,8 +17,8 @@ pub struct Cursor<'a> {
 
 impl<'a> Model for Cursor<'a> {
     ghost use Rattle.std.specs.Prelude.{List, ◌+◌, ◌^◌, ◌<◌, length};
-    ghost use Rattle.c_model.specs.declared.steps.Cell.{Cell};
-    ghost use Rattle.c_model.specs.JoinedLines.{cells_from};
+    ghost use Rattle.model_tokens.specs.declared.steps.Cell.{Cell};
+    ghost use Rattle.model_tokens.specs.JoinedLines.{cells_from};
 
     ghost Value = { List Cell };
 

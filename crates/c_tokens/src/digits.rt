@@ -1,6 +1,6 @@
 //! Digits of numbers.
 ghost use Rattle.std.specs.Prelude.{◌≡◌, ◌+◌, ◌^◌, ◌≤◌, ◌<◌, length, min, true, false};
-ghost use Rattle.c_model.specs.Digits as spec;
+ghost use Rattle.model_tokens.specs.Digits as spec;
 ghost use Rattle.c_tokens.specs.Values as laws;
 
 /// The value of a digit, or 16 where the byte is none.

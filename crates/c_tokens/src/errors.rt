@@ -1,6 +1,6 @@
 //! Why no tokens are answered.
-use c_model::tokens::TokenRule;
 use cake_base::{Fault, NoMemory};
+use model_tokens::tokens::TokenRule;
 use thiserror::Error;
 
 /// A broken rule of the family L, or the want of memory.
@@ -35,7 +35,7 @@ impl From<NoMemory> for TokenError {
 }
 
 /// The rule that a single token breaks, or the want of memory.
-#[derive(Debug, Drop)]
+#[derive(Drop)]
 pub enum Refusal {
     Broken(TokenRule),
     NoMemory,

@@ -1,6 +1,6 @@
 //! Floating constants, which the language leaves out.
 ghost use Rattle.std.specs.Prelude.{◌≡◌, None, Some, MatchOption};
-ghost use Rattle.c_model.specs.FloatingConstants as spec;
+ghost use Rattle.model_tokens.specs.FloatingConstants as spec;
 
 use crate::digits::{are_digits, digit_run};
 use crate::slices::{behind, byte_at};

@@ -1,15 +1,15 @@
 //! Integer constants.
 ghost use Rattle.std.specs.Prelude.{◌≡◌, ◌≤◌, length, Some};
 ghost use Rattle.std.specs.List.{prefix_len};
-ghost use Rattle.c_model.specs.declared.constants.Base.TheVariants as Base;
-ghost use Rattle.c_model.specs.IntegerConstants as spec;
-ghost use Rattle.c_model.specs.Operations as operations;
+ghost use Rattle.model_tokens.specs.declared.constants.Base.TheVariants as Base;
+ghost use Rattle.model_tokens.specs.IntegerConstants as spec;
+ghost use Rattle.model_types.specs.Operations as operations;
 
 use crate::digits::{are_digits, value};
 use crate::slices::{behind, byte_at};
-use c_model::constants::{Base, Suffix};
-use c_model::numbers::{Basic, Const};
-use c_model::tokens::TokenRule;
+use model_tokens::constants::{Base, Suffix};
+use model_tokens::tokens::TokenRule;
+use model_types::numbers::{Basic, Const};
 
 fn is_u(b: u8) -> bool
     ensures { result ≡ spec.is_u b }

@@ -21,14 +21,11 @@ mod unended;
 mod whole;
 mod words;
 
-pub use c_model::tokens::{CKind, CTok, PpKind};
-pub use convert::c_token;
+pub use convert::{c_token, is_identifier};
 pub use errors::TokenError;
 pub use lists::{CList, PpList};
+pub use model_tokens::tokens::{CKind, CTok, PpKind};
 pub use pp_token::PpTok;
 pub use strings::join_strings;
 pub use text::pp_tokens;
 pub use whole::convert_tokens;
-
-#[cfg(test)]
-mod tests;

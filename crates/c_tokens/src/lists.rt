@@ -2,8 +2,8 @@
 ghost use Rattle.std.specs.Prelude.{◌≡◌, [], ◌∷◌, ◌++◌, ◌<◌, ◌^◌, length, slice_get, option_copied, OnOk, OnErr};
 
 use crate::pp_token::PpTok;
-use c_model::tokens::CTok;
 use cake_base::NoMemory;
+use model_tokens::tokens::CTok;
 use std::alloc::Global;
 use std::marker::Model;
 
@@ -15,7 +15,7 @@ pub struct PpList {
 
 impl Model for PpList {
     ghost use Rattle.std.specs.Prelude.{List};
-    ghost use Rattle.c_model.specs.PpTokens.{PpToken};
+    ghost use Rattle.model_tokens.specs.PpTokens.{PpToken};
 
     ghost Value = { List PpToken };
 
@@ -72,7 +72,7 @@ pub struct CList {
 
 impl Model for CList {
     ghost use Rattle.std.specs.Prelude.{List};
-    ghost use Rattle.c_model.specs.declared.tokens.CTok.{CTok};
+    ghost use Rattle.model_tokens.specs.declared.tokens.CTok.{CTok};
 
     ghost Value = { List CTok };
 

@@ -1,7 +1,7 @@
 //! String literals and character constants as spelled: their prefixes, quotes and content.
 ghost use Rattle.std.specs.Prelude.{◌≡◌, ◌≤◌, length, false, option_copied, MatchOption};
-ghost use Rattle.c_model.specs.Characters as characters;
-ghost use Rattle.c_model.specs.PpSteps as steps;
+ghost use Rattle.model_tokens.specs.Characters as characters;
+ghost use Rattle.model_tokens.specs.PpSteps as steps;
 
 use crate::slices::byte_at;
 

@@ -1,9 +1,8 @@
 //! A preprocessing token.
 ghost use Rattle.std.specs.Prelude.{◌≡◌, IfOk};
 
-use crate::slices::copied;
-use c_model::tokens::PpKind;
 use cake_base::{Bytes, NoMemory, Place};
+use model_tokens::tokens::PpKind;
 use std::alloc::Global;
 use std::marker::Model;
 
@@ -21,7 +20,7 @@ pub struct PpTok {
 }
 
 impl Model for PpTok {
-    ghost use Rattle.c_model.specs.PpTokens.{PpToken};
+    ghost use Rattle.model_tokens.specs.PpTokens.{PpToken};
 
     ghost Value = { PpToken };
 
@@ -53,7 +52,7 @@ impl PpTok {
     pub fn copy(&self, alloc: Global) -> Result<PpTok, NoMemory>
         ensures { IfOk result (λ t. t ≡ self.now) }
     {
-        let text = copied(alloc, self.text.as_slice())?;
+        let text = Bytes::of(alloc, self.text.as_slice())?;
         Ok(PpTok {
             kind: self.kind,
             place: self.place,

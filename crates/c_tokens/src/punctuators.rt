@@ -1,7 +1,7 @@
 //! The punctuators of preprocessing, by their length.
 ghost use Rattle.std.specs.Prelude.{◌≡◌, [], ◌∷◌, map, ◌≤◌};
-ghost use Rattle.c_model.specs.PpSteps as spec;
-ghost use Rattle.c_model.specs.Vocabulary.{is_punctuator, stands_in};
+ghost use Rattle.model_tokens.specs.PpSteps as spec;
+ghost use Rattle.model_types.specs.Vocabulary.{is_punctuator, stands_in};
 
 const THREES: [(u8, u8, u8); 3] = [(b'.', b'.', b'.'), (b'<', b'<', b'='), (b'>', b'>', b'=')];
 

@@ -1,14 +1,14 @@
 //! How far a token, a comment or blanks go from the front of a text.
 ghost use Rattle.std.specs.Prelude.{◌≡◌, ◌+◌, ◌^◌, ◌<◌, ◌≤◌, length, drop, slice_index, MatchResult, IfSome, None, Some, true, false};
 ghost use Rattle.std.specs.List.{prefix_len};
-ghost use Rattle.c_model.specs.JoinedLines.{bytes};
-ghost use Rattle.c_model.specs.PpSteps as spec;
+ghost use Rattle.model_tokens.specs.JoinedLines.{bytes};
+ghost use Rattle.model_tokens.specs.PpSteps as spec;
 ghost use Rattle.c_tokens.specs.Classes.{is_in};
 
 use crate::cursor::Cursor;
 
 /// Sets of bytes that stand side by side.
-#[derive(Clone, Copy, Debug)]
+#[derive(Clone, Copy)]
 pub enum Class {
     Blank,
     Word,

@@ -1,7 +1,7 @@
 //! What stands at the front of a text.
 ghost use Rattle.std.specs.Prelude.{◌≡◌, ◌+◌, ◌^◌, ◌<◌, ◌≤◌, length, drop, slice_index, IfSome, false, true};
-ghost use Rattle.c_model.specs.JoinedLines.{bytes};
-ghost use Rattle.c_model.specs.PpSteps as spec;
+ghost use Rattle.model_tokens.specs.JoinedLines.{bytes};
+ghost use Rattle.model_tokens.specs.PpSteps as spec;
 ghost use Rattle.c_tokens.specs.Unended.{Knows, Moves};
 
 use crate::cursor::Cursor;
@@ -9,8 +9,8 @@ use crate::literals::is_quote;
 use crate::punctuators;
 use crate::scan::{Class, comment_end, header_end, is_in, number_rest, peek, skip, span};
 use crate::unended::{Unended, literal_length};
-use c_model::steps::{LinePart, Step};
-use c_model::tokens::PpKind;
+use model_tokens::steps::{LinePart, Step};
+use model_tokens::tokens::PpKind;
 
 /// The length of the prefix before a quote at the front, and the byte behind it.
 fn opening(from: &Cursor) -> (usize, u8)
@@ -108,7 +108,7 @@ fn comment_step(from: &Cursor) -> Step
 }
 
 /// What stands at the front of a text that isn't empty, in this part of its line.
-#[tactic(auto, unfolding(c_model::specs::PpSteps::step_at))]
+#[tactic(auto, unfolding(model_tokens::specs::PpSteps::step_at))]
 pub fn step_at(line: LinePart, from: &Cursor, unended: &mut Unended) -> Step
     requires fits { length from.now < 2 ^ 32 }
     requires some { 0 < length from.now }

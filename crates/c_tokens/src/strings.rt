@@ -1,17 +1,16 @@
 //! String literals that stand side by side.
 ghost use Rattle.std.specs.Prelude.{◌≡◌, ◌++◌, IfOk, OnOk, MatchOption, false};
-ghost use Rattle.c_model.specs.CTokens as spec;
-ghost use Rattle.c_model.specs.declared.tokens.CKind.TheVariants as kind_of;
+ghost use Rattle.model_tokens.specs.CTokens as spec;
+ghost use Rattle.model_tokens.specs.declared.tokens.CKind.TheVariants as kind_of;
 ghost use Rattle.c_tokens.specs.Pending as pending_of;
 
 use crate::lists::CList;
-use crate::slices::copied;
-use c_model::tokens::{CKind, CTok};
 use cake_base::{Bytes, NoMemory, Place};
+use model_tokens::tokens::{CKind, CTok};
 use std::alloc::Global;
 
 /// The string that the next one is joined to.
-#[derive(Debug, Drop)]
+#[derive(Drop)]
 pub struct Pending {
     bytes: Bytes,
     place: Place,
@@ -23,12 +22,12 @@ fn kind_copied(alloc: Global, kind: &CKind) -> Result<CKind, NoMemory>
     match kind {
         CKind::Word(number) => Ok(CKind::Word(*number)),
         CKind::Name(bytes) => {
-            let bytes = copied(alloc, bytes.as_slice())?;
+            let bytes = Bytes::of(alloc, bytes.as_slice())?;
             Ok(CKind::Name(bytes))
         }
         CKind::Integer(constant) => Ok(CKind::Integer(*constant)),
         CKind::Text(bytes) => {
-            let bytes = copied(alloc, bytes.as_slice())?;
+            let bytes = Bytes::of(alloc, bytes.as_slice())?;
             Ok(CKind::Text(bytes))
         }
         CKind::Punct(number) => Ok(CKind::Punct(*number)),
@@ -75,7 +74,7 @@ fn longer(
 {
     match pending {
         None => {
-            let bytes = copied(alloc, bytes.as_slice())?;
+            let bytes = Bytes::of(alloc, bytes.as_slice())?;
             Ok(Pending { bytes, place })
         }
         Some(string) => {

@@ -1,7 +1,7 @@
 //! The preprocessing tokens of a text.
 ghost use Rattle.std.specs.Prelude.{◌≡◌, ◌+◌, ◌-◌, ◌^◌, ◌<◌, ◌≤◌, [], ◌∷◌, ◌++◌, length, take, drop, IfOk, true, false};
-ghost use Rattle.c_model.specs.JoinedLines.{bytes};
-ghost use Rattle.c_model.specs.PpTokens as spec;
+ghost use Rattle.model_tokens.specs.JoinedLines.{bytes};
+ghost use Rattle.model_tokens.specs.PpTokens as spec;
 ghost use Rattle.c_tokens.specs.Answers.{Answers};
 
 use crate::cursor::Cursor;
@@ -11,8 +11,8 @@ use crate::pp_token::PpTok;
 use crate::scan::skip;
 use crate::steps::step_at;
 use crate::unended::Unended;
-use c_model::steps::{Cell, LinePart, Step};
 use cake_base::{Bytes, Family, Fault, NoMemory, Place, Rule};
+use model_tokens::steps::{Cell, LinePart, Step};
 use std::alloc::Global;
 
 /// Takes the text of `n` bytes.

@@ -1,14 +1,14 @@
 //! What is known of quotes that aren't ended on their line, so that no line is searched twice.
 ghost use Rattle.std.specs.Prelude.{◌≡◌, ◌+◌, ◌-◌, ◌^◌, ◌<◌, ◌≤◌, length, drop, slice_index, IfSome, false, true};
-ghost use Rattle.c_model.specs.JoinedLines.{bytes};
-ghost use Rattle.c_model.specs.PpSteps as spec;
+ghost use Rattle.model_tokens.specs.JoinedLines.{bytes};
+ghost use Rattle.model_tokens.specs.PpSteps as spec;
 ghost use Rattle.c_tokens.specs.Unended.{Barren, Knows};
 
 use crate::cursor::Cursor;
 use crate::scan::{closing, skip};
 
 /// How many of the bytes ahead hold no `"`, and no `'`, that is ended on its line.
-#[derive(Clone, Copy, Debug)]
+#[derive(Clone, Copy)]
 pub struct Unended {
     pub texts: usize,
     pub characters: usize,

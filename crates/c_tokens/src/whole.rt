@@ -1,6 +1,6 @@
 //! The tokens of C of a list.
 ghost use Rattle.std.specs.Prelude.{◌≡◌};
-ghost use Rattle.c_model.specs.CTokens as spec;
+ghost use Rattle.model_tokens.specs.CTokens as spec;
 ghost use Rattle.c_tokens.specs.Answers.{Answers};
 
 use crate::convert::c_token;

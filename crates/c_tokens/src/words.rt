@@ -1,6 +1,6 @@
 //! The numbers of words and punctuators, which are looked for among the spellings of one length.
 ghost use Rattle.std.specs.Prelude.{◌≡◌, map};
-ghost use Rattle.c_model.specs.Vocabulary as spec;
+ghost use Rattle.model_types.specs.Vocabulary as spec;
 ghost use Rattle.c_tokens.specs.Numbered.{number_under};
 
 const WORDS_OF_2: [(&[u8], u32); 2] = [(b"if", 31), (b"do", 35)];

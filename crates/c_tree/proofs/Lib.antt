@@ -1,5 +1,3 @@
-pub mod CoreParts
-pub mod CoreLists
 pub mod SyntaxShapes
 pub mod SyntaxSorting
 pub mod SyntaxNodeValue

@@ -1,24 +1,24 @@
 -- What each tree of a derivation stands for is a form of the sort of its nonterminal.
 use Rattle.std.specs.Prelude.{◌≡◌, ℕ, ◌+◌, List, [], ◌∷◌, ◌++◌, length, slice_get, Option, Some, None, IsSome, refl}
 use Rattle.std.proofs.Common.{sym, subst, ◌∙◌, ap, arith, append_assoc}
-use Rattle.c_model.specs.declared.grammar.Act.{Act}
-use Rattle.c_model.specs.declared.grammar.Rule.{Rule}
-use Rattle.c_model.specs.declared.grammar.Rule.TheVariants as r
-use Rattle.c_model.specs.declared.grammar.Terminal.{Terminal}
-use Rattle.c_model.specs.declared.grammar.Tree.{Tree}
-use Rattle.c_model.specs.declared.marks.Span.{Span}
-use Rattle.c_model.specs.declared.tokens.CTok.{CTok}
-use Rattle.c_model.specs.Derivation.{Derives}
-use Rattle.c_model.specs.GrammarForm.{Form, word, rule}
-use Rattle.c_model.specs.NameScopes.{Scopes, start}
-use Rattle.c_model.specs.SyntaxActions.{value_of, node_value, tree_of, unit_in}
+use Rattle.model_grammar.specs.declared.grammar.Act.{Act}
+use Rattle.model_grammar.specs.declared.grammar.Rule.{Rule}
+use Rattle.model_grammar.specs.declared.grammar.Rule.TheVariants as r
+use Rattle.model_grammar.specs.declared.grammar.Terminal.{Terminal}
+use Rattle.model_grammar.specs.declared.grammar.Tree.{Tree}
+use Rattle.model_types.specs.declared.marks.Span.{Span}
+use Rattle.model_tokens.specs.declared.tokens.CTok.{CTok}
+use Rattle.model_grammar.specs.Derivation.{Derives}
+use Rattle.model_grammar.specs.GrammarForm.{Form, word, rule}
+use Rattle.model_grammar.specs.NameScopes.{Scopes, start}
+use Rattle.model_grammar.specs.SyntaxActions.{value_of, node_value, tree_of, unit_in}
 use Rattle.c_tree.proofs.SyntaxNodeValue.{values, node_of}
 use Rattle.c_tree.proofs.SyntaxShapes.{Added, no_more, more_expr, more_typename, more_spec, more_qualifier, more_specs, more_members, more_member, more_enumerator, more_declarator, more_suffix, more_parameters, more_parameter, more_initializer, more_braces, more_item, more_designator, more_declaration, more_initdeclarator, more_assertion, more_statement, more_blockitem, more_block, more_external, more_unit, Shape, of_word, of_rule, of_nothing, of_both, of_left, of_right, of_none, of_one, of_end, of_turn, of_first, of_second, of_last, of_again}
 use Rattle.c_tree.proofs.SyntaxSorting.{made_sorted}
 use Rattle.c_tree.specs.SyntaxSorts.{Sort, UnitSort, Sorted, sort_of, sorted_nothing, sorted_expr, sorted_typename, sorted_spec, sorted_qualifier, sorted_specs, sorted_members, sorted_member, sorted_enumerator, sorted_declarator, sorted_suffix, sorted_parameters, sorted_parameter, sorted_initializer, sorted_braces, sorted_item, sorted_designator, sorted_declaration, sorted_initdeclarator, sorted_assertion, sorted_statement, sorted_blockitem, sorted_block, sorted_external, sorted_unit, AreTokens}
-use Rattle.c_model.specs.SyntaxTree.{c_language}
-use Rattle.c_model.specs.TerminalsOf.{terminals_from, terminals_of}
-use Rattle.c_model.specs.SyntaxValues.{Meaning, Value, token_value, meanings, without_attributes}
+use Rattle.model_grammar.specs.SyntaxTree.{c_language}
+use Rattle.model_grammar.specs.TerminalsOf.{terminals_from, terminals_of}
+use Rattle.model_grammar.specs.SyntaxValues.{Meaning, Value, token_value, meanings, without_attributes}
 
 -- the meanings of symbols, attributes left out
 abbrev pub shown : List Value → List Meaning

@@ -2,13 +2,13 @@
 use mathlib.Core.Former.{Count}
 use Rattle.std.specs.Prelude.{◌≡◌, List, [], ◌∷◌, refl}
 use Rattle.std.proofs.Common.{◌∙◌, ap}
-use Rattle.c_model.specs.declared.grammar.Rule.{Rule}
-use Rattle.c_model.specs.declared.grammar.Tree.{Tree, Row_of-Tree, end_of-Tree, more_of-Tree, items-the_row-Tree}
-use Rattle.c_model.specs.declared.grammar.Tree.TheBlock.{hidden-the_row-Tree-0, items_hidden-the_row-Tree-0}
-use Rattle.c_model.specs.declared.grammar.Tree.TheVariants as tree
-use Rattle.c_model.specs.declared.tokens.CTok.{CTok}
-use Rattle.c_model.specs.SyntaxValues.{Value}
-use Rattle.c_model.specs.SyntaxActions.{value_of, values_of, node_value}
+use Rattle.model_grammar.specs.declared.grammar.Rule.{Rule}
+use Rattle.model_grammar.specs.declared.grammar.Tree.{Tree, Row_of-Tree, end_of-Tree, more_of-Tree, items-the_row-Tree}
+use Rattle.model_grammar.specs.declared.grammar.Tree.TheBlock.{hidden-the_row-Tree-0, items_hidden-the_row-Tree-0}
+use Rattle.model_grammar.specs.declared.grammar.Tree.TheVariants as tree
+use Rattle.model_tokens.specs.declared.tokens.CTok.{CTok}
+use Rattle.model_grammar.specs.SyntaxValues.{Value}
+use Rattle.model_grammar.specs.SyntaxActions.{value_of, values_of, node_value}
 
 abbrev pub values : List CTok → List Tree → List Value
 values tokens [] = []

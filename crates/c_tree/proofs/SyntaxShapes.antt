@@ -1,15 +1,15 @@
 -- The meanings that the symbols of a form may have, attributes left out.
 use Rattle.std.specs.Prelude.{ℕ, List, ◌∷◌}
 use Rattle.cake_base.specs.declared.places.Place.{Place}
-use Rattle.c_model.specs.declared.grammar.Act.{Act}
-use Rattle.c_model.specs.declared.grammar.Rule.{Rule}
-use Rattle.c_model.specs.declared.grammar.Test.{Test}
-use Rattle.c_model.specs.declared.tokens.CKind.{CKind}
-use Rattle.c_model.specs.GrammarForm.{Form, word, rule, empty, ◌then◌, ◌or◌, maybe, many, when, loop}
-use Rattle.c_model.specs.declared.syntax.Qualifier.{Qualifier}
-use Rattle.c_model.specs.SyntaxForms as syntax
+use Rattle.model_grammar.specs.declared.grammar.Act.{Act}
+use Rattle.model_grammar.specs.declared.grammar.Rule.{Rule}
+use Rattle.model_grammar.specs.declared.grammar.Test.{Test}
+use Rattle.model_tokens.specs.declared.tokens.CKind.{CKind}
+use Rattle.model_grammar.specs.GrammarForm.{Form, word, rule, empty, ◌then◌, ◌or◌, maybe, many, when, loop}
+use Rattle.model_grammar.specs.declared.syntax.Qualifier.{Qualifier}
+use Rattle.model_grammar.specs.SyntaxForms as syntax
 use Rattle.c_tree.specs.SyntaxSorts.{Sort, sort_of, NoSort, ExprSort, TypeNameSort, SpecSort, QualifierSort, SpecsSort, MembersSort, MemberSort, EnumeratorSort, DeclaratorSort, SuffixSort, ParametersSort, ParameterSort, InitializerSort, BracesSort, ItemSort, DesignatorSort, DeclarationSort, InitDeclaratorSort, AssertionSort, StatementSort, BlockItemSort, BlockSort, ExternalSort, UnitSort}
-use Rattle.c_model.specs.SyntaxValues.{Meaning, a_token, an_expr, a_type_name, a_spec, a_qualifier, some_specs, some_members, a_member, an_enumerator, a_declarator, a_suffix, some_parameters, a_parameter, an_initializer, some_braces, an_item, a_designator, a_declaration, an_init_declarator, an_assertion, a_statement, a_block_item, a_block, an_external, a_unit}
+use Rattle.model_grammar.specs.SyntaxValues.{Meaning, a_token, an_expr, a_type_name, a_spec, a_qualifier, some_specs, some_members, a_member, an_enumerator, a_declarator, a_suffix, some_parameters, a_parameter, an_initializer, some_braces, an_item, a_designator, a_declaration, an_init_declarator, an_assertion, a_statement, a_block_item, a_block, an_external, a_unit}
 
 -- the meanings with one of a sort before the others, attributes left out
 pub data Added : Sort → List Meaning → List Meaning → Type 0 where

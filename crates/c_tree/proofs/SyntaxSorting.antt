@@ -1,22 +1,22 @@
 -- What each production makes of its symbols is of the sort of its nonterminal.
 use Rattle.std.specs.Prelude.{◌≡◌, refl, ℕ, List, [], ◌∷◌, Some, None}
 use Rattle.cake_base.specs.declared.places.Place.{Place}
-use Rattle.c_model.specs.declared.syntax.Name.{Name}
-use Rattle.c_model.specs.declared.tokens.CKind.{CKind}
-use Rattle.c_model.specs.declared.tokens.CKind.TheVariants as content_of
-use Rattle.c_model.specs.SyntaxForms as syntax
-use Rattle.c_model.specs.declared.grammar.Rule.{Rule}
-use Rattle.c_model.specs.declared.grammar.Rule.TheVariants as r
-use Rattle.c_model.specs.Grammar.{grammar}
-use Rattle.c_model.specs.GrammarForm.{rule, many}
+use Rattle.model_grammar.specs.declared.syntax.Name.{Name}
+use Rattle.model_tokens.specs.declared.tokens.CKind.{CKind}
+use Rattle.model_tokens.specs.declared.tokens.CKind.TheVariants as content_of
+use Rattle.model_grammar.specs.SyntaxForms as syntax
+use Rattle.model_grammar.specs.declared.grammar.Rule.{Rule}
+use Rattle.model_grammar.specs.declared.grammar.Rule.TheVariants as r
+use Rattle.model_grammar.specs.Grammar.{grammar}
+use Rattle.model_grammar.specs.GrammarForm.{rule, many}
 use Rattle.c_tree.specs.SyntaxSorts.{AssertionSort, BlockItemSort, BlockSort, BracesSort, DeclarationSort, DeclaratorSort, DesignatorSort, EnumeratorSort, ExprSort, ExternalSort, InitDeclaratorSort, InitializerSort, ItemSort, MemberSort, ParameterSort, QualifierSort, SpecSort, SpecsSort, StatementSort, SuffixSort, TypeNameSort, Sorted, sorted_nothing, sorted_expr, sorted_typename, sorted_spec, sorted_qualifier, sorted_specs, sorted_members, sorted_member, sorted_enumerator, sorted_declarator, sorted_suffix, sorted_parameters, sorted_parameter, sorted_initializer, sorted_braces, sorted_item, sorted_designator, sorted_declaration, sorted_initdeclarator, sorted_assertion, sorted_statement, sorted_blockitem, sorted_block, sorted_external, sorted_unit, sort_of}
 use Rattle.c_tree.proofs.SyntaxShapes.{Added, no_more, more_expr, more_typename, more_spec, more_qualifier, more_specs, more_members, more_enumerator, more_declarator, more_suffix, more_parameters, more_initializer, more_braces, more_designator, more_declaration, more_assertion, more_statement, more_block, more_external, Shape, of_word, of_rule, of_both, of_left, of_right, of_none, of_one, of_nothing, of_end, of_turn, of_first, of_second}
-use Rattle.c_model.specs.SyntaxValues.{Meaning, a_token, an_initializer}
-use Rattle.c_model.specs.SyntaxExprActions as e
-use Rattle.c_model.specs.SyntaxDeclarationActions as d
-use Rattle.c_model.specs.SyntaxStatementActions as s
-use Rattle.c_model.specs.SyntaxActions.{action, alone}
-use Rattle.c_model.specs.declared.marks.Span.{Span}
+use Rattle.model_grammar.specs.SyntaxValues.{Meaning, a_token, an_initializer}
+use Rattle.model_grammar.specs.SyntaxExprActions as e
+use Rattle.model_grammar.specs.SyntaxDeclarationActions as d
+use Rattle.model_grammar.specs.SyntaxStatementActions as s
+use Rattle.model_grammar.specs.SyntaxActions.{action, alone}
+use Rattle.model_types.specs.declared.marks.Span.{Span}
 
 chained_sorted : {ms others : List Meaning} → Added ExprSort ms others → Sorted ExprSort (e.chained ms)
 chained_sorted (more_expr x) = sorted_expr _

@@ -1,13 +1,13 @@
 -- Of which sort the form is that each nonterminal stands for.
 use Rattle.std.specs.Prelude.{◌≡◌, List, [], ◌∷◌, Some, slice_get}
 use Rattle.cake_base.specs.declared.places.Place.{Place}
-use Rattle.c_model.specs.declared.grammar.Rule.{Rule}
-use Rattle.c_model.specs.declared.grammar.Rule.TheVariants as r
-use Rattle.c_model.specs.declared.grammar.Terminal.{Terminal}
-use Rattle.c_model.specs.declared.syntax.Qualifier.{Qualifier}
-use Rattle.c_model.specs.declared.tokens.CTok.{CTok}
-use Rattle.c_model.specs.SyntaxForms as syntax
-use Rattle.c_model.specs.SyntaxValues.{Meaning, nothing, an_expr, a_type_name, a_spec, a_qualifier, some_specs, some_members, a_member, an_enumerator, a_declarator, a_suffix, some_parameters, a_parameter, an_initializer, some_braces, an_item, a_designator, a_declaration, an_init_declarator, an_assertion, a_statement, a_block_item, a_block, an_external, a_unit}
+use Rattle.model_grammar.specs.declared.grammar.Rule.{Rule}
+use Rattle.model_grammar.specs.declared.grammar.Rule.TheVariants as r
+use Rattle.model_grammar.specs.declared.grammar.Terminal.{Terminal}
+use Rattle.model_grammar.specs.declared.syntax.Qualifier.{Qualifier}
+use Rattle.model_tokens.specs.declared.tokens.CTok.{CTok}
+use Rattle.model_grammar.specs.SyntaxForms as syntax
+use Rattle.model_grammar.specs.SyntaxValues.{Meaning, nothing, an_expr, a_type_name, a_spec, a_qualifier, some_specs, some_members, a_member, an_enumerator, a_declarator, a_suffix, some_parameters, a_parameter, an_initializer, some_braces, an_item, a_designator, a_declaration, an_init_declarator, an_assertion, a_statement, a_block_item, a_block, an_external, a_unit}
 
 pub data Sort : Type 0 where
   -- attributes, which stand for nothing

@@ -1,7 +1,7 @@
 -- The tree of the grammar that a node is. A node is seen as that tree itself, and contracts of the crates above say these
 -- words, so that nodes which stand for trees otherwise change nothing but them.
 use Rattle.std.specs.Prelude.{List}
-use Rattle.c_model.specs.SyntaxForms as m
+use Rattle.model_grammar.specs.SyntaxForms as m
 
 abbrev pub expr_tree : m.Expr → m.Expr
 expr_tree node = node

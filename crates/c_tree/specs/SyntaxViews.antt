@@ -1,6 +1,6 @@
 -- The tree that each form makes: one level, over the trees of its parts.
 use Rattle.std.specs.Prelude.{List, [], ◌∷◌, Option, Some, None}
-use Rattle.c_model.specs.SyntaxForms as m
+use Rattle.model_grammar.specs.SyntaxForms as m
 use Rattle.c_tree.specs.declared.syntax_expressions.ExprForm.{ExprForm}
 use Rattle.c_tree.specs.declared.syntax_expressions.ExprForm.TheVariants as expr_form
 use Rattle.c_tree.specs.declared.syntax_specifiers.TypeNameForm.{TypeNameForm}

@@ -1,6 +1,6 @@
 //! Declarations (ISO/IEC 9899:2024, 6.7, 6.7.12).
 ghost use Rattle.std.specs.Prelude.{◌≡◌, IfOk};
-ghost use Rattle.c_model.specs.SyntaxDepth.{capped, declaration_depth};
+ghost use Rattle.c_tree.specs.SyntaxDepth.{capped, declaration_depth};
 ghost use Rattle.c_tree.specs.SyntaxViews.{declaration_of};
 ghost use Rattle.c_tree.specs.SyntaxTrees.{declaration_tree};
 
@@ -56,10 +56,10 @@ pub struct Assertion {
 
 impl Model for Declaration {
     ghost use Rattle.std.specs.Prelude.{◌≡◌};
-    ghost use Rattle.c_model.specs.SyntaxForms as m;
-    ghost use Rattle.c_tree.specs.SyntaxSizes.{declaration_nodes};
-    ghost use Rattle.c_model.specs.SyntaxDepth.{declaration_depth, capped};
-    ghost use Rattle.c_tree.specs.SyntaxCode.{coded_declaration};
+    ghost use Rattle.model_grammar.specs.SyntaxForms as m;
+    ghost use Rattle.c_tree.specs.apparatus.SyntaxSizes.{declaration_nodes};
+    ghost use Rattle.c_tree.specs.SyntaxDepth.{declaration_depth, capped};
+    ghost use Rattle.c_tree.specs.apparatus.SyntaxCode.{coded_declaration};
 
     ghost Value = { m.Declaration };
 
@@ -73,7 +73,7 @@ impl Model for Declaration {
 
     ghost size = { declaration_nodes };
 
-    ghost use Rattle.c_tree.specs.SyntaxFalls.{declaration_falls};
+    ghost use Rattle.c_tree.specs.apparatus.SyntaxFalls.{declaration_falls};
 
     ghost size_decreases = { λ a h. declaration_falls a.form.value };
 }
@@ -86,7 +86,10 @@ impl Declaration {
         let depth = declaration_form_depth(&form);
         match Rc::new(alloc, form) {
             Ok(form) => Ok(Declaration { form, depth }),
-            Err(_) => Err(NoMemory),
+            Err(failed) => {
+                drop(failed);
+                Err(NoMemory)
+            }
         }
     }
 

@@ -1,14 +1,14 @@
 //! Declarators (ISO/IEC 9899:2024, 6.7.7).
 ghost use Rattle.std.specs.Prelude.{◌≡◌, IfOk};
-ghost use Rattle.c_model.specs.SyntaxDepth.{capped, declarator_depth};
+ghost use Rattle.c_tree.specs.SyntaxDepth.{capped, declarator_depth};
 ghost use Rattle.c_tree.specs.SyntaxViews.{declarator_of};
 ghost use Rattle.c_tree.specs.SyntaxTrees.{declarator_tree};
 
 use crate::syntax_depths::declarator_form_depth;
 use crate::syntax_expressions::Expr;
 use crate::syntax_specifiers::Specs;
-use c_model::syntax::{Name, Pointer};
 use cake_base::{NoMemory, Place};
+use model_grammar::syntax::{Name, Pointer};
 use sqlite_items::Items;
 use std::alloc::Global;
 use std::marker::Model;
@@ -75,10 +75,10 @@ pub struct Parameter {
 
 impl Model for Declarator {
     ghost use Rattle.std.specs.Prelude.{◌≡◌};
-    ghost use Rattle.c_model.specs.SyntaxForms as m;
-    ghost use Rattle.c_tree.specs.SyntaxSizes.{declarator_nodes};
-    ghost use Rattle.c_model.specs.SyntaxDepth.{declarator_depth, capped};
-    ghost use Rattle.c_tree.specs.SyntaxCode.{coded_declarator};
+    ghost use Rattle.model_grammar.specs.SyntaxForms as m;
+    ghost use Rattle.c_tree.specs.apparatus.SyntaxSizes.{declarator_nodes};
+    ghost use Rattle.c_tree.specs.SyntaxDepth.{declarator_depth, capped};
+    ghost use Rattle.c_tree.specs.apparatus.SyntaxCode.{coded_declarator};
 
     ghost Value = { m.Declarator };
 
@@ -92,7 +92,7 @@ impl Model for Declarator {
 
     ghost size = { declarator_nodes };
 
-    ghost use Rattle.c_tree.specs.SyntaxFalls.{declarator_falls};
+    ghost use Rattle.c_tree.specs.apparatus.SyntaxFalls.{declarator_falls};
 
     ghost size_decreases = { λ a h. declarator_falls a.form.value };
 }
@@ -105,7 +105,10 @@ impl Declarator {
         let depth = declarator_form_depth(&form);
         match Rc::new(alloc, form) {
             Ok(form) => Ok(Declarator { form, depth }),
-            Err(_) => Err(NoMemory),
+            Err(failed) => {
+                drop(failed);
+                Err(NoMemory)
+            }
         }
     }
 

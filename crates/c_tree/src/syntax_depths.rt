@@ -1,8 +1,8 @@
 //! How deep forms are, from the depths that the nodes in them keep. None of these calls itself.
 ghost use Rattle.std.specs.Prelude.{◌≡◌, ℕ, ◌+◌, max};
-ghost use Rattle.c_model.specs.SyntaxForms as m;
-ghost use Rattle.c_model.specs.SyntaxDepth as d;
-ghost use Rattle.c_model.specs.SyntaxDepth.{capped};
+ghost use Rattle.model_grammar.specs.SyntaxForms as m;
+ghost use Rattle.c_tree.specs.SyntaxDepth as d;
+ghost use Rattle.c_tree.specs.SyntaxDepth.{capped};
 ghost use Rattle.c_tree.specs.SyntaxViews.{assertion_of, block_item_of, block_items_of, block_of, braces_of, declaration_of, declarator_of, designator_of, designators_of, enumerator_of, enumerators_of, expr_of, external_of, externals_of, init_declarator_of, init_declarators_of, initializer_item_of, initializer_items_of, initializer_of, maybe_declaration_of, maybe_expr_of, maybe_initializer_of, maybe_specs_of, maybe_statement_of, member_declaration_of, member_declarations_of, parameter_of, parameters_of, spec_of, specs_items, specs_of, statement_of, suffix_of, suffixes_of, tree_of_form, type_name_of};
 
 use crate::syntax_declarations::{Assertion, Declaration, DeclarationForm, InitDeclarator};

@@ -1,6 +1,6 @@
 //! Expressions (ISO/IEC 9899:2024, 6.5).
 ghost use Rattle.std.specs.Prelude.{◌≡◌, IfOk};
-ghost use Rattle.c_model.specs.SyntaxDepth.{capped, expr_depth};
+ghost use Rattle.c_tree.specs.SyntaxDepth.{capped, expr_depth};
 ghost use Rattle.c_tree.specs.SyntaxViews.{expr_of};
 ghost use Rattle.c_tree.specs.SyntaxTrees.{expr_tree};
 
@@ -8,10 +8,10 @@ use crate::syntax_depths::expr_form_depth;
 use crate::syntax_initializers::Braces;
 use crate::syntax_specifiers::TypeName;
 use crate::syntax_statements::Block;
-use c_model::numbers::{BinOp, Const};
-use c_model::operators::{LogicOp, StepOp, StepSide};
-use c_model::syntax::{Name, PrefixOp};
 use cake_base::{Bytes, NoMemory, Place};
+use model_grammar::syntax::{Name, PrefixOp};
+use model_types::numbers::{BinOp, Const};
+use model_types::operators::{LogicOp, StepOp, StepSide};
 use sqlite_items::Items;
 use std::alloc::Global;
 use std::marker::Model;
@@ -163,10 +163,10 @@ pub struct Expr {
 
 impl Model for Expr {
     ghost use Rattle.std.specs.Prelude.{◌≡◌};
-    ghost use Rattle.c_model.specs.SyntaxForms as m;
-    ghost use Rattle.c_tree.specs.SyntaxSizes.{expr_nodes};
-    ghost use Rattle.c_model.specs.SyntaxDepth.{expr_depth, capped};
-    ghost use Rattle.c_tree.specs.SyntaxCode.{coded_expr};
+    ghost use Rattle.model_grammar.specs.SyntaxForms as m;
+    ghost use Rattle.c_tree.specs.apparatus.SyntaxSizes.{expr_nodes};
+    ghost use Rattle.c_tree.specs.SyntaxDepth.{expr_depth, capped};
+    ghost use Rattle.c_tree.specs.apparatus.SyntaxCode.{coded_expr};
 
     ghost Value = { m.Expr };
 
@@ -180,7 +180,7 @@ impl Model for Expr {
 
     ghost size = { expr_nodes };
 
-    ghost use Rattle.c_tree.specs.SyntaxFalls.{expr_falls};
+    ghost use Rattle.c_tree.specs.apparatus.SyntaxFalls.{expr_falls};
 
     ghost size_decreases = { λ a h. expr_falls a.form.value };
 }
@@ -193,7 +193,10 @@ impl Expr {
         let depth = expr_form_depth(&form);
         match Rc::new(alloc, form) {
             Ok(form) => Ok(Expr { form, depth }),
-            Err(_) => Err(NoMemory),
+            Err(failed) => {
+                drop(failed);
+                Err(NoMemory)
+            }
         }
     }
 

@@ -1,13 +1,13 @@
 //! Initializers (ISO/IEC 9899:2024, 6.7.11).
 ghost use Rattle.std.specs.Prelude.{◌≡◌, IfOk};
-ghost use Rattle.c_model.specs.SyntaxDepth.{capped, initializer_depth};
+ghost use Rattle.c_tree.specs.SyntaxDepth.{capped, initializer_depth};
 ghost use Rattle.c_tree.specs.SyntaxViews.{initializer_of};
 ghost use Rattle.c_tree.specs.SyntaxTrees.{initializer_tree};
 
 use crate::syntax_depths::initializer_form_depth;
 use crate::syntax_expressions::Expr;
-use c_model::syntax::Name;
 use cake_base::{NoMemory, Place};
+use model_grammar::syntax::Name;
 use sqlite_items::Items;
 use std::alloc::Global;
 use std::marker::Model;
@@ -55,10 +55,10 @@ pub enum Designator {
 
 impl Model for Initializer {
     ghost use Rattle.std.specs.Prelude.{◌≡◌};
-    ghost use Rattle.c_model.specs.SyntaxForms as m;
-    ghost use Rattle.c_tree.specs.SyntaxSizes.{initializer_nodes};
-    ghost use Rattle.c_model.specs.SyntaxDepth.{initializer_depth, capped};
-    ghost use Rattle.c_tree.specs.SyntaxCode.{coded_initializer};
+    ghost use Rattle.model_grammar.specs.SyntaxForms as m;
+    ghost use Rattle.c_tree.specs.apparatus.SyntaxSizes.{initializer_nodes};
+    ghost use Rattle.c_tree.specs.SyntaxDepth.{initializer_depth, capped};
+    ghost use Rattle.c_tree.specs.apparatus.SyntaxCode.{coded_initializer};
 
     ghost Value = { m.Initializer };
 
@@ -72,7 +72,7 @@ impl Model for Initializer {
 
     ghost size = { initializer_nodes };
 
-    ghost use Rattle.c_tree.specs.SyntaxFalls.{initializer_falls};
+    ghost use Rattle.c_tree.specs.apparatus.SyntaxFalls.{initializer_falls};
 
     ghost size_decreases = { λ a h. initializer_falls a.form.value };
 }
@@ -85,7 +85,10 @@ impl Initializer {
         let depth = initializer_form_depth(&form);
         match Rc::new(alloc, form) {
             Ok(form) => Ok(Initializer { form, depth }),
-            Err(_) => Err(NoMemory),
+            Err(failed) => {
+                drop(failed);
+                Err(NoMemory)
+            }
         }
     }
 

@@ -1,16 +1,16 @@
 //! Laws of what the grammar's trees stand for.
 ghost use Rattle.std.specs.Prelude.{List, [], ◌∷◌, IsSome};
-ghost use Rattle.c_model.specs.declared.grammar.Rule.{Rule};
-ghost use Rattle.c_model.specs.declared.grammar.Rule.TheVariants as r;
-ghost use Rattle.c_model.specs.declared.grammar.Terminal.{Terminal};
-ghost use Rattle.c_model.specs.declared.grammar.Tree.{Tree};
-ghost use Rattle.c_model.specs.declared.tokens.CTok.{CTok};
-ghost use Rattle.c_model.specs.Derivation.{Derives};
-ghost use Rattle.c_model.specs.GrammarForm.{rule};
-ghost use Rattle.c_model.specs.NameScopes.{Scopes, start};
-ghost use Rattle.c_model.specs.SyntaxActions.{value_of, tree_of};
-ghost use Rattle.c_model.specs.SyntaxTree.{c_language};
-ghost use Rattle.c_model.specs.TerminalsOf.{terminals_of};
+ghost use Rattle.model_grammar.specs.declared.grammar.Rule.{Rule};
+ghost use Rattle.model_grammar.specs.declared.grammar.Rule.TheVariants as r;
+ghost use Rattle.model_grammar.specs.declared.grammar.Terminal.{Terminal};
+ghost use Rattle.model_grammar.specs.declared.grammar.Tree.{Tree};
+ghost use Rattle.model_tokens.specs.declared.tokens.CTok.{CTok};
+ghost use Rattle.model_grammar.specs.Derivation.{Derives};
+ghost use Rattle.model_grammar.specs.GrammarForm.{rule};
+ghost use Rattle.model_grammar.specs.NameScopes.{Scopes, start};
+ghost use Rattle.model_grammar.specs.SyntaxActions.{value_of, tree_of};
+ghost use Rattle.model_grammar.specs.SyntaxTree.{c_language};
+ghost use Rattle.model_grammar.specs.TerminalsOf.{terminals_of};
 ghost use Rattle.c_tree.specs.SyntaxSorts.{AreTokens, Sorted, sort_of};
 
 /// Each tree that the grammar derives from tokens of a list stands for a form of the sort of its nonterminal: an

@@ -1,6 +1,6 @@
 //! The first tokens of the parts of a unit.
 ghost use Rattle.std.specs.Prelude.{◌≡◌};
-ghost use Rattle.c_model.specs.SyntaxPlaces as p;
+ghost use Rattle.c_tree.specs.SyntaxPlaces as p;
 ghost use Rattle.c_tree.specs.SyntaxTrees.{expr_tree, initializer_tree, specs_tree, type_name_tree, declarator_tree};
 ghost use Rattle.c_tree.specs.SyntaxViews.{spec_of, suffixes_of};
 
@@ -8,9 +8,9 @@ use crate::syntax_declarators::{Declarator, DeclaratorForm, Suffix};
 use crate::syntax_expressions::{Expr, ExprForm};
 use crate::syntax_initializers::{Initializer, InitializerForm};
 use crate::syntax_specifiers::{Spec, Specs, TypeName};
-use c_model::operators::StepSide;
-use c_model::syntax::Pointer;
 use cake_base::Place;
+use model_grammar::syntax::Pointer;
+use model_types::operators::StepSide;
 use sqlite_items::Items;
 
 impl Expr {

@@ -1,6 +1,6 @@
 //! Specifiers of declarations, and type names (ISO/IEC 9899:2024, 6.7.1 to 6.7.5, 6.7.8).
 ghost use Rattle.std.specs.Prelude.{◌≡◌, IfOk};
-ghost use Rattle.c_model.specs.SyntaxDepth.{capped, specs_depth, type_name_depth};
+ghost use Rattle.c_tree.specs.SyntaxDepth.{capped, specs_depth, type_name_depth};
 ghost use Rattle.c_tree.specs.SyntaxViews.{type_name_of, specs_of};
 ghost use Rattle.c_tree.specs.SyntaxTrees.{type_name_tree, specs_tree};
 
@@ -8,8 +8,8 @@ use crate::syntax_declarations::Assertion;
 use crate::syntax_declarators::Declarator;
 use crate::syntax_depths::{specs_form_depth, type_name_form_depth};
 use crate::syntax_expressions::Expr;
-use c_model::syntax::{FunctionWord, Name, Qualifier, StorageWord, TypeWord, TypeofWord};
 use cake_base::{NoMemory, Place};
+use model_grammar::syntax::{FunctionWord, Name, Qualifier, StorageWord, TypeWord, TypeofWord};
 use sqlite_items::Items;
 use std::alloc::Global;
 use std::marker::Model;
@@ -124,10 +124,10 @@ pub struct Enumerator {
 
 impl Model for TypeName {
     ghost use Rattle.std.specs.Prelude.{◌≡◌};
-    ghost use Rattle.c_model.specs.SyntaxForms as m;
-    ghost use Rattle.c_tree.specs.SyntaxSizes.{type_name_nodes};
-    ghost use Rattle.c_model.specs.SyntaxDepth.{type_name_depth, capped};
-    ghost use Rattle.c_tree.specs.SyntaxCode.{coded_type_name};
+    ghost use Rattle.model_grammar.specs.SyntaxForms as m;
+    ghost use Rattle.c_tree.specs.apparatus.SyntaxSizes.{type_name_nodes};
+    ghost use Rattle.c_tree.specs.SyntaxDepth.{type_name_depth, capped};
+    ghost use Rattle.c_tree.specs.apparatus.SyntaxCode.{coded_type_name};
 
     ghost Value = { m.TypeName };
 
@@ -141,17 +141,17 @@ impl Model for TypeName {
 
     ghost size = { type_name_nodes };
 
-    ghost use Rattle.c_tree.specs.SyntaxFalls.{type_name_falls};
+    ghost use Rattle.c_tree.specs.apparatus.SyntaxFalls.{type_name_falls};
 
     ghost size_decreases = { λ a h. type_name_falls a.form.value };
 }
 
 impl Model for Specs {
     ghost use Rattle.std.specs.Prelude.{◌≡◌};
-    ghost use Rattle.c_model.specs.SyntaxForms as m;
-    ghost use Rattle.c_tree.specs.SyntaxSizes.{specs_nodes};
-    ghost use Rattle.c_model.specs.SyntaxDepth.{specs_depth, capped};
-    ghost use Rattle.c_tree.specs.SyntaxCode.{coded_specs};
+    ghost use Rattle.model_grammar.specs.SyntaxForms as m;
+    ghost use Rattle.c_tree.specs.apparatus.SyntaxSizes.{specs_nodes};
+    ghost use Rattle.c_tree.specs.SyntaxDepth.{specs_depth, capped};
+    ghost use Rattle.c_tree.specs.apparatus.SyntaxCode.{coded_specs};
 
     ghost Value = { m.Specs };
 
@@ -165,7 +165,7 @@ impl Model for Specs {
 
     ghost size = { specs_nodes };
 
-    ghost use Rattle.c_tree.specs.SyntaxFalls.{specs_falls};
+    ghost use Rattle.c_tree.specs.apparatus.SyntaxFalls.{specs_falls};
 
     ghost size_decreases = { λ a h. specs_falls a.form.value };
 }
@@ -178,7 +178,10 @@ impl TypeName {
         let depth = type_name_form_depth(&form);
         match Rc::new(alloc, form) {
             Ok(form) => Ok(TypeName { form, depth }),
-            Err(_) => Err(NoMemory),
+            Err(failed) => {
+                drop(failed);
+                Err(NoMemory)
+            }
         }
     }
 
@@ -218,7 +221,10 @@ impl Specs {
         let depth = specs_form_depth(&form);
         match Rc::new(alloc, form) {
             Ok(form) => Ok(Specs { form, depth }),
-            Err(_) => Err(NoMemory),
+            Err(failed) => {
+                drop(failed);
+                Err(NoMemory)
+            }
         }
     }
 

@@ -1,14 +1,14 @@
 //! Statements (ISO/IEC 9899:2024, 6.8).
 ghost use Rattle.std.specs.Prelude.{◌≡◌, IfOk};
-ghost use Rattle.c_model.specs.SyntaxDepth.{capped, statement_depth};
+ghost use Rattle.c_tree.specs.SyntaxDepth.{capped, statement_depth};
 ghost use Rattle.c_tree.specs.SyntaxViews.{statement_of};
 ghost use Rattle.c_tree.specs.SyntaxTrees.{statement_tree};
 
 use crate::syntax_declarations::Declaration;
 use crate::syntax_depths::statement_form_depth;
 use crate::syntax_expressions::Expr;
-use c_model::marks::Span;
 use cake_base::{NoMemory, Place};
+use model_types::marks::Span;
 use sqlite_items::Items;
 use std::alloc::Global;
 use std::marker::Model;
@@ -117,10 +117,10 @@ pub struct Block {
 
 impl Model for Statement {
     ghost use Rattle.std.specs.Prelude.{◌≡◌};
-    ghost use Rattle.c_model.specs.SyntaxForms as m;
-    ghost use Rattle.c_tree.specs.SyntaxSizes.{statement_nodes};
-    ghost use Rattle.c_model.specs.SyntaxDepth.{statement_depth, capped};
-    ghost use Rattle.c_tree.specs.SyntaxCode.{coded_statement};
+    ghost use Rattle.model_grammar.specs.SyntaxForms as m;
+    ghost use Rattle.c_tree.specs.apparatus.SyntaxSizes.{statement_nodes};
+    ghost use Rattle.c_tree.specs.SyntaxDepth.{statement_depth, capped};
+    ghost use Rattle.c_tree.specs.apparatus.SyntaxCode.{coded_statement};
 
     ghost Value = { m.Statement };
 
@@ -134,7 +134,7 @@ impl Model for Statement {
 
     ghost size = { statement_nodes };
 
-    ghost use Rattle.c_tree.specs.SyntaxFalls.{statement_falls};
+    ghost use Rattle.c_tree.specs.apparatus.SyntaxFalls.{statement_falls};
 
     ghost size_decreases = { λ a h. statement_falls a.form.value };
 }
@@ -147,7 +147,10 @@ impl Statement {
         let depth = statement_form_depth(&form);
         match Rc::new(alloc, form) {
             Ok(form) => Ok(Statement { form, depth }),
-            Err(_) => Err(NoMemory),
+            Err(failed) => {
+                drop(failed);
+                Err(NoMemory)
+            }
         }
     }
 

@@ -1,6 +1,6 @@
 //! Translation units (ISO/IEC 9899:2024, 6.9).
 ghost use Rattle.std.specs.Prelude.{◌≡◌, IfOk};
-ghost use Rattle.c_model.specs.SyntaxDepth.{capped, unit_depth};
+ghost use Rattle.c_tree.specs.SyntaxDepth.{capped, unit_depth};
 ghost use Rattle.c_tree.specs.SyntaxViews.{tree_of_form};
 ghost use Rattle.c_tree.specs.SyntaxTrees.{unit_of};
 
@@ -43,9 +43,9 @@ pub struct Tree {
 impl Model for Tree {
     ghost use Rattle.std.specs.Prelude.{◌≡◌, List};
     ghost use Rattle.std.specs.Coded.{coded_list};
-    ghost use Rattle.c_model.specs.SyntaxForms as m;
-    ghost use Rattle.c_model.specs.SyntaxDepth.{unit_depth, capped};
-    ghost use Rattle.c_tree.specs.SyntaxCode.{coded_external};
+    ghost use Rattle.model_grammar.specs.SyntaxForms as m;
+    ghost use Rattle.c_tree.specs.SyntaxDepth.{unit_depth, capped};
+    ghost use Rattle.c_tree.specs.apparatus.SyntaxCode.{coded_external};
 
     ghost Value = { List m.External };
 
@@ -66,7 +66,10 @@ impl Tree {
         let depth = unit_form_depth(&form);
         match Rc::new(alloc, form) {
             Ok(form) => Ok(Tree { form, depth }),
-            Err(_) => Err(NoMemory),
+            Err(failed) => {
+                drop(failed);
+                Err(NoMemory)
+            }
         }
     }
 

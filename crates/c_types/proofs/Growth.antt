@@ -3,10 +3,10 @@ use Rattle.std.proofs.Common.{◌≡◌, ℕ, zero, suc, ◌+◌, ◌≤◌, ◌
 use Rattle.std.specs.Option.{option_map}
 use Rattle.std.specs.List.{list_all}
 use Rattle.std.proofs.lemmas.Bool.{and_parts, and_from, ltb-true, lt-ltb}
-use Rattle.c_model.specs.declared.types.StructId.{StructId}
-use Rattle.c_model.specs.Types.{CType, typed, Form, Void, Integer, Enum, Pointer, Array, Struct, Function, Types, no_types, more_types}
-use Rattle.c_model.specs.Structures.{Member, Structure, members_in, members_of, completed, names_below, form_names_below, types_names_below, members_below, knows, is_closed}
-use Rattle.c_model.specs.Layout.{Layout, type_layout, repeated, before_others, member_layouts, layout_of_members, struct_layout, complete_count, layout_in, layout_of, padded, in_a_row}
+use Rattle.model_types.specs.declared.types.StructId.{StructId}
+use Rattle.model_types.specs.Types.{CType, typed, Form, Void, Integer, Enum, Pointer, Array, Struct, Function, Types, no_types, more_types}
+use Rattle.model_types.specs.Structures.{Member, Structure, members_in, members_of, completed, names_below, form_names_below, types_names_below, members_below, knows, is_closed}
+use Rattle.model_types.specs.Layout.{Layout, type_layout, repeated, before_others, member_layouts, layout_of_members, struct_layout, complete_count, layout_in, layout_of, padded, in_a_row}
 
 none_some : {A : Type 0} (x : A) → None ≡ Some x → ⊥
 none_some x e = cc

@@ -5,9 +5,9 @@ use Rattle.std.proofs.lemmas.Option.{slice_get-map}
 use Rattle.std.proofs.lemmas.Bool.{and_parts, cases_eq}
 use Rattle.std.specs.Option.{option_map}
 use Rattle.std.specs.List.{list_all}
-use Rattle.c_model.specs.declared.types.StructId.{StructId}
-use Rattle.c_model.specs.Structures.{Member, Structure, members_in, members_of, completed, members_below, is_closed, knows}
-use Rattle.c_model.specs.Layout.{Layout, layout_in, layout_of, layout_of_members, complete_count}
+use Rattle.model_types.specs.declared.types.StructId.{StructId}
+use Rattle.model_types.specs.Structures.{Member, Structure, members_in, members_of, completed, members_below, is_closed, knows}
+use Rattle.model_types.specs.Layout.{Layout, layout_in, layout_of, layout_of_members, complete_count}
 use Rattle.c_types.specs.declared.extents.Extent.{Extent}
 use Rattle.c_types.specs.declared.structs.Body.{Body}
 use Rattle.c_types.specs.declared.structs.Entry.{Entry}

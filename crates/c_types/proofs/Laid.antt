@@ -4,10 +4,10 @@ use Rattle.std.proofs.lemmas.List.{length-map}
 use Rattle.std.proofs.lemmas.Bool.{and_parts}
 use Rattle.std.specs.Option.{option_map}
 use Rattle.std.specs.List.{list_all}
-use Rattle.c_model.specs.declared.types.StructId.{StructId}
-use Rattle.c_model.specs.Types.{CType, typed, Void, Integer, Enum, Pointer, Array, Struct, Function}
-use Rattle.c_model.specs.Structures.{Member, Structure, members_of, completed, knows}
-use Rattle.c_model.specs.Layout.{Layout, is_complete, layout_in, layout_of, repeated, before_others, member_layouts, layout_of_members, padded, in_a_row}
+use Rattle.model_types.specs.declared.types.StructId.{StructId}
+use Rattle.model_types.specs.Types.{CType, typed, Void, Integer, Enum, Pointer, Array, Struct, Function}
+use Rattle.model_types.specs.Structures.{Member, Structure, members_of, completed, knows}
+use Rattle.model_types.specs.Layout.{Layout, is_complete, layout_in, layout_of, repeated, before_others, member_layouts, layout_of_members, padded, in_a_row}
 use Rattle.c_types.specs.declared.structs.Body.{Body}
 use Rattle.c_types.specs.declared.structs.Entry.{Entry}
 use Rattle.c_types.specs.Extents.{kept}

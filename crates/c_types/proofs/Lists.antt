@@ -1,7 +1,7 @@
 -- Lists of types that are compared one by one, as a loop goes over them.
 use Rattle.std.proofs.Common.{◌≡◌, ◌≤◌, ◌<◌, ◌+◌, ◌&&◌, ℕ, zero, suc, Bool, true, false, List, [], ◌∷◌, length, drop, drop-cons, add-one, get_or, arith, refl, sym, ◌∙◌, ap}
-use Rattle.c_model.specs.Types as t
-use Rattle.c_model.specs.Compatible as m
+use Rattle.model_types.specs.Types as t
+use Rattle.model_types.specs.Compatible as m
 
 -- lists of two lengths aren't compatible
 pub unlike : (xs ys : List t.CType) → (length xs ≡ length ys → ⊥) → false ≡ m.compatible_lists (t.types xs) (t.types ys)

@@ -4,10 +4,10 @@ use Rattle.std.specs.Option.{option_map, option_and_then}
 use Rattle.std.specs.List.{fold}
 use Rattle.std.specs.Int.{next_multiple_of}
 use Rattle.std.proofs.lemmas.Option.{same_Some}
-use Rattle.c_model.specs.declared.types.StructId.{StructId}
-use Rattle.c_model.specs.Types.{CType, typed, Void, Integer, Enum, Pointer, Array, Struct, Function, form_of_type}
-use Rattle.c_model.specs.Structures.{Member, Structure, members_of}
-use Rattle.c_model.specs.Layout as m
+use Rattle.model_types.specs.declared.types.StructId.{StructId}
+use Rattle.model_types.specs.Types.{CType, typed, Void, Integer, Enum, Pointer, Array, Struct, Function, form_of_type}
+use Rattle.model_types.specs.Structures.{Member, Structure, members_of}
+use Rattle.model_types.specs.Layout as m
 use Rattle.c_types.specs.Extents as s
 use Rattle.c_types.specs.declared.extents.Extent.{Extent}
 use Rattle.c_types.proofs.Saturation.{kept_behind}

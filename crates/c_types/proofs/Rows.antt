@@ -2,8 +2,8 @@
 use Rattle.std.proofs.Common.{◌≡◌, ℕ, ◌+◌, ◌<◌, List, ◌∷◌, drop, drop-cons, add-one, get_or, length, Option, Some, None, arith, refl, sym, ◌∙◌, ap, subst, suc}
 use Rattle.std.proofs.lemmas.Option.{same_Some}
 use Rattle.std.specs.Option.{option_map}
-use Rattle.c_model.specs.Structures.{Member, Structure}
-use Rattle.c_model.specs.Layout as m
+use Rattle.model_types.specs.Structures.{Member, Structure}
+use Rattle.model_types.specs.Layout as m
 use Rattle.c_types.specs.Extents as s
 use Rattle.c_types.specs.declared.extents.Extent.{Extent}
 use Rattle.c_types.proofs.Saturation.{kept_behind, kept_padded}

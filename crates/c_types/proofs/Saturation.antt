@@ -5,12 +5,12 @@ use Rattle.std.proofs.lemmas.Bool.{cases_lt}
 use Rattle.std.specs.Option.{option_map}
 use Rattle.std.specs.Int.{next_multiple_of}
 use Rattle.std.specs.List.{fold}
-use Rattle.c_model.specs.declared.numbers.Basic.{Basic}
-use Rattle.c_model.specs.declared.numbers.Basic.TheVariants.{Bool as bool, Char, SignedChar, UnsignedChar, Short, UnsignedShort, Int, Unsigned, Long, UnsignedLong, LongLong, UnsignedLongLong}
-use Rattle.c_model.specs.declared.types.StructId.{StructId}
-use Rattle.c_model.specs.Types.{CType, typed, Void, Integer, Enum, Pointer, Array, Struct, Function}
-use Rattle.c_model.specs.Structures.{Member, Structure, members_of}
-use Rattle.c_model.specs.Layout as m
+use Rattle.model_types.specs.declared.numbers.Basic.{Basic}
+use Rattle.model_types.specs.declared.numbers.Basic.TheVariants.{Bool as bool, Char, SignedChar, UnsignedChar, Short, UnsignedShort, Int, Unsigned, Long, UnsignedLong, LongLong, UnsignedLongLong}
+use Rattle.model_types.specs.declared.types.StructId.{StructId}
+use Rattle.model_types.specs.Types.{CType, typed, Void, Integer, Enum, Pointer, Array, Struct, Function}
+use Rattle.model_types.specs.Structures.{Member, Structure, members_of}
+use Rattle.model_types.specs.Layout as m
 use Rattle.c_types.specs.Extents as s
 use Rattle.c_types.specs.declared.extents.Extent.{Extent}
 

@@ -5,11 +5,11 @@ use Rattle.std.proofs.Math.Nat.{div-le_self, mod-le, pow-le-pow_right}
 use Rattle.std.specs.Ordering.{int_eq}
 use Rattle.std.specs.Int.{w128, int_rem_euclid}
 use lib.Signed.{shr_z}
-use Rattle.c_model.specs.declared.numbers.Basic.{Basic}
-use Rattle.c_model.specs.declared.numbers.Basic.TheVariants.{Bool as bool, Char, SignedChar, UnsignedChar, Short, UnsignedShort, Int, Unsigned, Long, UnsignedLong, LongLong, UnsignedLongLong}
-use Rattle.c_model.specs.declared.outcomes.Cause.{Cause}
-use Rattle.c_model.specs.declared.outcomes.Cause.TheVariants.{Overflow}
-use Rattle.c_model.specs.Operations as m
+use Rattle.model_types.specs.declared.numbers.Basic.{Basic}
+use Rattle.model_types.specs.declared.numbers.Basic.TheVariants.{Bool as bool, Char, SignedChar, UnsignedChar, Short, UnsignedShort, Int, Unsigned, Long, UnsignedLong, LongLong, UnsignedLongLong}
+use Rattle.model_types.specs.declared.outcomes.Cause.{Cause}
+use Rattle.model_types.specs.declared.outcomes.Cause.TheVariants.{Overflow}
+use Rattle.model_types.specs.Operations as m
 
 -- the bounds of all integer types together
 pub record IsNarrow (v : ℤ) : Type 0 where

@@ -2,7 +2,7 @@
 use Rattle.std.specs.Prelude.{ℕ, ◌+◌, ◌*◌, ◌≤◌, ◌<◌, min, max, List}
 use Rattle.std.specs.Int.{next_multiple_of}
 use Rattle.std.specs.List.{fold}
-use Rattle.c_model.specs.Layout.{Layout, size_limit}
+use Rattle.model_types.specs.Layout.{Layout, size_limit}
 use Rattle.c_types.specs.declared.extents.Extent.{Extent}
 
 abbrev pub past_limit : ℕ

@@ -2,7 +2,7 @@
 use Rattle.std.specs.Prelude.{◌+◌, ◌≤◌, max, List, [], ◌∷◌}
 use Rattle.std.proofs.Common.{arith}
 use denote.Param.Weighed.{most}
-use Rattle.c_model.specs.Types as m
+use Rattle.model_types.specs.Types as m
 use Rattle.c_types.specs.declared.types.TypeForm.{TypeForm}
 use Rattle.c_types.specs.declared.types.TypeForm.TheVariants.{Void, Integer, Enum, Pointer, Array, Struct, Function}
 use Rattle.c_types.specs.declared.types.CType.TheDeep.{deep-TypeForm}

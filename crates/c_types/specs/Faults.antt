@@ -1,7 +1,7 @@
 -- Faults of operations on constants, and the causes that they stand for.
 use Rattle.std.specs.Prelude.{Result, Ok, Err}
-use Rattle.c_model.specs.declared.outcomes.Cause.{Cause}
-use Rattle.c_model.specs.declared.outcomes.Cause.TheVariants as cause
+use Rattle.model_types.specs.declared.outcomes.Cause.{Cause}
+use Rattle.model_types.specs.declared.outcomes.Cause.TheVariants as cause
 use Rattle.c_types.specs.declared.operations.OpFault.{OpFault}
 use Rattle.c_types.specs.declared.operations.OpFault.TheVariants.{Overflow, ZeroDivisor, BadShift}
 

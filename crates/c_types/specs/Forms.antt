@@ -1,5 +1,5 @@
 -- The mathematical form of a form.
-use Rattle.c_model.specs.Types as m
+use Rattle.model_types.specs.Types as m
 use Rattle.c_types.specs.declared.types.TypeForm.{TypeForm}
 use Rattle.c_types.specs.declared.types.TypeForm.TheVariants.{Void, Integer, Enum, Pointer, Array, Struct, Function}
 

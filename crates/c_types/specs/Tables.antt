@@ -1,9 +1,9 @@
 -- The table of structures as the code keeps it.
 use Rattle.std.specs.Prelude.{◌≡◌, ◌<◌, ◌^◌, ℕ, zero, suc, List, [], ◌∷◌, length, map, Option, Some, None, slice_get, IsTrue}
 use Rattle.std.specs.Option.{option_map}
-use Rattle.c_model.specs.declared.types.StructId.{StructId}
-use Rattle.c_model.specs.Structures.{Structure, is_closed}
-use Rattle.c_model.specs.Layout.{layout_in}
+use Rattle.model_types.specs.declared.types.StructId.{StructId}
+use Rattle.model_types.specs.Structures.{Structure, is_closed}
+use Rattle.model_types.specs.Layout.{layout_in}
 use Rattle.c_types.specs.declared.extents.Extent.{Extent}
 use Rattle.c_types.specs.declared.structs.Body.{Body}
 use Rattle.c_types.specs.declared.structs.Entry.{Entry}

@@ -1,13 +1,13 @@
 //! Compatible types.
 ghost use Rattle.std.specs.Prelude.{◌≡◌};
-ghost use Rattle.c_model.specs.Types as t;
-ghost use Rattle.c_model.specs.Compatible as m;
+ghost use Rattle.model_types.specs.Types as t;
+ghost use Rattle.model_types.specs.Compatible as m;
 ghost use Rattle.c_types.specs.Forms.{form_of};
 
 use crate::structs::Structs;
 use crate::types::{CType, TypeForm};
-use c_model::numbers::Basic;
-use c_model::types::Quals;
+use model_types::numbers::Basic;
+use model_types::types::Quals;
 
 fn same_basic(a: Basic, b: Basic) -> bool
     ensures { result ≡ m.same_basic a b }
@@ -15,13 +15,15 @@ fn same_basic(a: Basic, b: Basic) -> bool
     a == b
 }
 
-fn same_ownership(a: Quals, b: Quals) -> bool
+/// Whether two sets of qualifiers agree but for `const` and `restrict`.
+pub fn same_ownership(a: Quals, b: Quals) -> bool
     ensures { result ≡ m.same_ownership a b }
 {
     a.has_owner == b.has_owner && a.has_view == b.has_view && a.has_opt == b.has_opt
 }
 
-fn same_quals(a: Quals, b: Quals) -> bool
+/// Whether two sets of qualifiers are the same (ISO/IEC 9899:2024, 6.7.4).
+pub fn same_quals(a: Quals, b: Quals) -> bool
     ensures { result ≡ m.same_quals a b }
 {
     a.has_const == b.has_const && a.has_restrict == b.has_restrict && same_ownership(a, b)

@@ -1,9 +1,9 @@
 //! The integer types: widths, ranges, ranks, promotions and usual conversions.
 ghost use Rattle.std.specs.Prelude.{◌≡◌, ◌^◌, ◌≤◌, ◌<◌, ◌≤ℤ◌, pos};
-ghost use Rattle.c_model.specs.Operations as m;
-ghost use Rattle.c_model.specs.Conversions as c;
+ghost use Rattle.model_types.specs.Operations as m;
+ghost use Rattle.model_types.specs.Conversions as c;
 
-use c_model::numbers::Basic;
+use model_types::numbers::Basic;
 
 /// The width of a type, in bits; `bool` has one (ISO/IEC 9899:2024, 6.2.6.2).
 pub fn width(basic: Basic) -> u32

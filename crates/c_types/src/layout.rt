@@ -1,8 +1,8 @@
 //! Complete types, sizes, alignments and offsets.
 ghost use Rattle.std.specs.Prelude.{◌≡◌, ◌<◌, ◌≤◌, Some, is_some, IfSome, ℕ, List};
 ghost use Rattle.std.specs.Option.{option_map, option_copied};
-ghost use Rattle.c_model.specs.Types.{form_of_type};
-ghost use Rattle.c_model.specs.Layout as m;
+ghost use Rattle.model_types.specs.Types.{form_of_type};
+ghost use Rattle.model_types.specs.Layout as m;
 ghost use Rattle.c_types.specs.Forms.{form_of};
 ghost use Rattle.c_types.specs.Extents as s;
 
@@ -10,7 +10,7 @@ use crate::extents::{Extent, SIZE_LIMIT, padded_size};
 use crate::members::{Member, Members};
 use crate::structs::Structs;
 use crate::types::{CType, TypeForm};
-use c_model::numbers::Basic;
+use model_types::numbers::Basic;
 
 /// Whether a type is complete: false exactly for void, functions, structures without members yet,
 /// arrays without length and arrays of these (ISO/IEC 9899:2024, 6.2.5).

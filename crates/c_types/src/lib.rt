@@ -12,12 +12,12 @@ mod structs;
 mod tests;
 mod types;
 
-pub use c_model::numbers::{Basic, BinOp, Const};
-pub use c_model::types::{Quals, StructId};
-pub use compat::compatible;
+pub use compat::{compatible, same_ownership, same_quals};
 pub use integers::{common, fits, highest, is_signed, lowest, promoted, width};
 pub use layout::{align_of, is_complete, member_offset, size_of};
 pub use members::Members;
+pub use model_types::numbers::{Basic, BinOp, Const};
+pub use model_types::types::{Quals, StructId};
 pub use operations::{OpFault, const_op, convert, is_comparison, operand_type};
 pub use structs::Structs;
 pub use types::{CType, TypeForm, TypeList};

@@ -16,8 +16,8 @@ pub struct Member {
 }
 
 impl Model for Member {
-    ghost use Rattle.c_model.specs.Structures as m;
-    ghost use Rattle.c_model.specs.TypesCode.{coded_member};
+    ghost use Rattle.model_types.specs.Structures as m;
+    ghost use Rattle.model_types.specs.apparatus.TypesCode.{coded_member};
 
     ghost Value = { m.Member };
 
@@ -49,20 +49,11 @@ impl Member {
         ensures { IfOk result (λ made. made ≡ self.now) }
     {
         Ok(Member {
-            name: copy_bytes(alloc, &self.name)?,
+            name: Bytes::of(alloc, self.name.as_slice())?,
             ty: self.ty.copy(alloc)?,
             place: self.place,
         })
     }
-}
-
-/// An equal text.
-pub fn copy_bytes(alloc: Global, text: &Bytes) -> Result<Bytes, NoMemory>
-    ensures { IfOk result (λ made. made ≡ text.now) }
-{
-    let mut made = Bytes::new(alloc);
-    made.push(text.as_slice())?;
-    Ok(made)
 }
 
 /// The members of a structure in order, at most 4,294,967,295 of them. Contracts see a list.
@@ -74,8 +65,8 @@ pub struct Members {
 impl Model for Members {
     ghost use Rattle.std.specs.Prelude.{List, length, ◌<◌, ◌^◌};
     ghost use Rattle.std.specs.Coded.{coded_list};
-    ghost use Rattle.c_model.specs.Structures as m;
-    ghost use Rattle.c_model.specs.TypesCode.{coded_member};
+    ghost use Rattle.model_types.specs.Structures as m;
+    ghost use Rattle.model_types.specs.apparatus.TypesCode.{coded_member};
 
     ghost Value = { List m.Member };
 

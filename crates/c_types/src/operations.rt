@@ -2,14 +2,14 @@
 ghost use Rattle.std.specs.Prelude.{◌≡◌, ◌≢◌, ◌^◌, ◌≤◌, ◌<◌, ◌*◌, ◌≤ℤ◌, ◌<ℤ◌, ◌+ℤ◌, ◌-ℤ◌, ◌*ℤ◌, pos, true, false, bit_and, bit_or, bit_xor, unsigned_abs, int_div, int_rem, IsTrue, not, IfOk, IfErr, if◌then◌else◌};
 ghost use Rattle.std.specs.Int.{int_div_euclid};
 ghost use Rattle.std.specs.Ordering.{int_eq};
-ghost use Rattle.c_model.specs.Operations as m;
-ghost use Rattle.c_model.specs.Conversions as c;
+ghost use Rattle.model_types.specs.Operations as m;
+ghost use Rattle.model_types.specs.Conversions as c;
 ghost use Rattle.c_types.specs.Faults.{cause_of, caused};
-ghost use Rattle.c_model.specs.declared.numbers.BinOp.TheVariants.{ShiftLeft, ShiftRight};
-ghost use Rattle.c_model.specs.declared.numbers.Basic.TheVariants.{Int};
+ghost use Rattle.model_types.specs.declared.numbers.BinOp.TheVariants.{ShiftLeft, ShiftRight};
+ghost use Rattle.model_types.specs.declared.numbers.Basic.TheVariants.{Int};
 
 use crate::integers::{common, fits, highest, is_signed, modulus, promoted, width};
-use c_model::numbers::{Basic, BinOp, Const};
+use model_types::numbers::{Basic, BinOp, Const};
 
 /// By what an operation on constants is undefined.
 #[derive(Clone, Copy, Debug, PartialEq, Eq)]

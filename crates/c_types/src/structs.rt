@@ -2,16 +2,16 @@
 ghost use Rattle.std.specs.Prelude.{◌≡◌, ◌<◌, ◌≤◌, [], ◌∷◌, ◌++◌, length, slice_get, Some, None, is_some, IfOk, IfSome, OnOk, OnErr, IsTrue};
 ghost use Rattle.std.specs.Option.{option_map, option_copied};
 ghost use Rattle.std.specs.List.{list_all};
-ghost use Rattle.c_model.specs.Structures as m;
-ghost use Rattle.c_model.specs.Layout as l;
+ghost use Rattle.model_types.specs.Structures as m;
+ghost use Rattle.model_types.specs.Layout as l;
 ghost use Rattle.c_types.specs.Extents as s;
 ghost use Rattle.c_types.specs.Tables.{body_of, with_body};
 
 use crate::extents::Extent;
 use crate::layout::structure_extent;
-use crate::members::{Members, copy_bytes};
-use c_model::types::StructId;
+use crate::members::Members;
 use cake_base::{Bytes, NoMemory, Place};
+use model_types::types::StructId;
 use std::alloc::Global;
 use std::marker::Model;
 
@@ -41,8 +41,8 @@ pub struct Structs {
 impl Model for Structs {
     ghost use Rattle.std.specs.Prelude.{List};
     ghost use Rattle.std.specs.Coded.{coded_list};
-    ghost use Rattle.c_model.specs.Structures as m;
-    ghost use Rattle.c_model.specs.TypesCode.{coded_structure};
+    ghost use Rattle.model_types.specs.Structures as m;
+    ghost use Rattle.model_types.specs.apparatus.TypesCode.{coded_structure};
 
     ghost Value = { List m.Structure };
 
@@ -220,7 +220,7 @@ fn copy_tag(alloc: Global, tag: &Option<Bytes>) -> Result<Option<Bytes>, NoMemor
     ensures { IfOk result (λ made. made ≡ tag.now) }
 {
     match tag {
-        Some(tag) => Ok(Some(copy_bytes(alloc, tag)?)),
+        Some(tag) => Ok(Some(Bytes::of(alloc, tag.as_slice())?)),
         None => Ok(None),
     }
 }

@@ -1,9 +1,9 @@
-//! Rows with values from the standard, and each call that takes memory once with ample memory.
+//! Each call that makes or copies, once with ample memory.
 ghost use Rattle.std.specs.Prelude.{◌≡◌, ◌<◌, [], ◌∷◌, ◌++◌, List, length, IsTrue, IfOk, OnOk};
 ghost use Rattle.std.specs.List.{list_all};
-ghost use Rattle.c_model.specs.Types as t;
-ghost use Rattle.c_model.specs.Structures as m;
-ghost use Rattle.c_model.specs.Layout as l;
+ghost use Rattle.model_types.specs.Types as t;
+ghost use Rattle.model_types.specs.Structures as m;
+ghost use Rattle.model_types.specs.Layout as l;
 
 use crate::*;
 use cake_base::{Bytes, NoMemory, Place};
@@ -24,37 +24,6 @@ const HERE: Place = Place {
     order: 0,
 };
 
-#[test]
-fn converts(rt: HostRuntime) {
-    for (value, to, want) in [
-        (200, Basic::Char, -56),
-        (300, Basic::UnsignedChar, 44),
-        (5, Basic::Bool, 1),
-    ] {
-        assert_eq!(rt; convert(value, to), want, "at {value}");
-    }
-}
-
-fn int(value: i128) -> Const {
-    Const {
-        value: convert(value, Basic::Int),
-        basic: Basic::Int,
-    }
-}
-
-#[test]
-fn tells_faults_apart(rt: HostRuntime) {
-    for (op, left, right, want) in [
-        (BinOp::ShiftLeft, 1, 31, OpFault::BadShift),
-        (BinOp::ShiftRight, 1, 32, OpFault::BadShift),
-        (BinOp::Rem, 1, 0, OpFault::ZeroDivisor),
-        (BinOp::Rem, -2_147_483_648, -1, OpFault::Overflow),
-        (BinOp::Mul, 65_536, 32_768, OpFault::Overflow),
-    ] {
-        assert!(rt; matches!(const_op(op, int(left), int(right)), Err(fault) if fault == want));
-    }
-}
-
 fn pointer_to(alloc: Global, depth: u32) -> Result<CType, NoMemory> {
     let mut made = CType::new(alloc, TypeForm::Integer(Basic::Char), PLAIN)?;
     for _ in 0..depth {
@@ -64,24 +33,20 @@ fn pointer_to(alloc: Global, depth: u32) -> Result<CType, NoMemory> {
 }
 
 #[test]
-fn a_thousand_pointers(rt: HostRuntime) {
+fn types_are_made_and_copied(rt: HostRuntime) {
     let alloc = rt.alloc();
     let structs = Structs::new(alloc);
     let made = pointer_to(alloc, 1000).expect(&rt, "memory");
-    let other = pointer_to(alloc, 1000).expect(&rt, "memory");
-    let copy = made.copy(alloc).expect(&rt, "memory");
-    assert!(rt; compatible(&structs, &copy, &other));
-    assert_eq!(rt; size_of(&structs, &copy), Some(8));
-}
-
-#[test]
-fn lists_types(rt: HostRuntime) {
-    let alloc = rt.alloc();
+    let other = made.copy(alloc).expect(&rt, "memory");
+    let plain = other.with_quals(alloc, PLAIN).expect(&rt, "memory");
     let mut list = TypeList::new(alloc);
-    list.push(pointer_to(alloc, 1).expect(&rt, "memory"))
-        .expect(&rt, "memory");
+    list.push(plain).expect(&rt, "memory");
     assert_eq!(rt; list.count(), 1);
-    assert!(rt; list.get(1).is_none());
+    match list.get(0) {
+        Some(ty) => assert!(rt; compatible(&structs, ty, &made)),
+        None => assert!(rt; false),
+    }
+    assert_eq!(rt; size_of(&structs, &made), Some(8));
 }
 
 /// Adds a member without qualifiers.
@@ -108,7 +73,7 @@ fn char_int_short(alloc: Global) -> Result<Members, NoMemory>
 }
 
 #[test]
-fn lays_out(rt: HostRuntime) {
+fn structures_are_completed_and_copied(rt: HostRuntime) {
     let alloc = rt.alloc();
     let mut structs = Structs::new(alloc);
     let id = structs.add(None, true, HERE).expect(&rt, "memory");

@@ -1,12 +1,12 @@
 //! Types behind counted references: to copy one costs nothing.
 ghost use Rattle.std.specs.Prelude.{◌≡◌, [], ◌∷◌, ◌++◌, ◌↔◌, length, slice_get, IfOk, OnOk, OnErr};
 ghost use Rattle.std.specs.Option.{option_copied};
-ghost use Rattle.c_model.specs.Types as m;
+ghost use Rattle.model_types.specs.Types as m;
 ghost use Rattle.c_types.specs.Forms.{form_of};
 
-use c_model::numbers::Basic;
-use c_model::types::{Quals, StructId};
 use cake_base::NoMemory;
+use model_types::numbers::Basic;
+use model_types::types::{Quals, StructId};
 use std::alloc::Global;
 use std::marker::Model;
 use std::rc::Rc;
@@ -43,8 +43,8 @@ pub struct TypeList {
 }
 
 impl Model for CType {
-    ghost use Rattle.c_model.specs.Types as m;
-    ghost use Rattle.c_model.specs.TypesCode.{coded_type};
+    ghost use Rattle.model_types.specs.Types as m;
+    ghost use Rattle.model_types.specs.apparatus.TypesCode.{coded_type};
 
     ghost Value = { m.CType };
 
@@ -64,8 +64,8 @@ impl Model for CType {
 impl Model for TypeList {
     ghost use Rattle.std.specs.Prelude.{List};
     ghost use Rattle.std.specs.Coded.{coded_list};
-    ghost use Rattle.c_model.specs.Types as m;
-    ghost use Rattle.c_model.specs.TypesCode.{coded_type};
+    ghost use Rattle.model_types.specs.Types as m;
+    ghost use Rattle.model_types.specs.apparatus.TypesCode.{coded_type};
 
     ghost Value = { List m.CType };
 

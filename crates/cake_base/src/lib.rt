@@ -6,12 +6,12 @@ mod memory;
 mod outside;
 mod places;
 mod rules;
-#[cfg(test)]
-mod tests;
+mod stack;
 mod texts;
 
 pub use memory::{MemFiles, MemSink};
 pub use outside::{Files, MAX_FILE, ReadFault, Sink, WriteFault};
 pub use places::Place;
 pub use rules::{Act, Family, Fault, Limit, LimitHit, Mark, Note, Rule, Severity};
+pub use stack::Stack;
 pub use texts::{Bytes, FileName, NoMemory};

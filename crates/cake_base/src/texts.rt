@@ -44,6 +44,15 @@ impl Bytes {
         }
     }
 
+    /// A text of these bytes.
+    pub fn of(alloc: Global, bytes: &[u8]) -> Result<Bytes, NoMemory>
+        ensures { IfOk result (λ text. text ≡ bytes.now) }
+    {
+        let mut text = Bytes::new(alloc);
+        text.push(bytes)?;
+        Ok(text)
+    }
+
     /// Appends `more`. After a refusal nothing has changed.
     pub fn push(&mut self, more: &[u8]) -> Result<(), NoMemory>
         ensures ok { OnOk result (self.new ≡ self.old ++ more.now) }

@@ -1,13 +1,13 @@
 -- Words and files determine one answer.
 use Rattle.std.proofs.Common.{◌≡◌, ℕ, Result, Ok, Err, refl, sym, ap, ◌∙◌, subst}
 use Rattle.cake_base.specs.Outside.{Held}
-use Rattle.c_model.specs.declared.words.Mode.{Mode}
-use Rattle.c_model.specs.declared.words.Mode.TheVariants.{Translate, Expand, Check}
-use Rattle.c_model.specs.PreprocessedUnit.{Prepared, preprocessed}
-use Rattle.c_model.specs.Processes.{Log, Refusal}
-use Rattle.c_model.specs.Verdict.{Verdict, Stopped, NotBuilt, IsCore}
-use Rattle.c_model.specs.Words.{Plan}
-use Rattle.c_model.specs.Answer.{Answer, Usage, err_text, answer_to, log_of, IsAnswerIn, IsAnswer}
+use Rattle.cake_cli.specs.declared.modes.Mode.{Mode}
+use Rattle.cake_cli.specs.declared.modes.Mode.TheVariants.{Translate, Expand, Check}
+use Rattle.model_preprocessing.specs.PreprocessedUnit.{Prepared, preprocessed, log_of}
+use Rattle.model_preprocessing.specs.Processes.{Log, Refusal}
+use Rattle.cake_cli.specs.Verdict.{Verdict, Stopped, NotBuilt, IsCore}
+use Rattle.cake_cli.specs.Words.{Plan}
+use Rattle.cake_cli.specs.Answer.{Answer, Usage, err_text, answer_to, IsAnswerIn, IsAnswer}
 use Rattle.cake_cli.specs.Reports.{status_of}
 use Rattle.cake_cli.proofs.DueReports.{answer_in}
 use Rattle.cake_cli.proofs.UniqueVerdict.{one_verdict}
@@ -30,8 +30,8 @@ SameReport a b = (status_of a ≡ status_of b) × (err_text a ≡ err_text b)
 
 same_report : (log : Log) (v : Verdict) → SameReport (answer_to Check log v) (answer_to Translate log v)
 same_report log (Stopped stop) = (refl, refl)
-same_report log (NotBuilt place) = (refl, refl)
-same_report log (IsCore core) = (refl, refl)
+same_report log (NotBuilt unit place) = (refl, refl)
+same_report log (IsCore unit core) = (refl, refl)
 
 pub check_reports : (done : Result Prepared Refusal) (a b : Answer) → IsAnswerIn Check done a → IsAnswerIn Translate done b → (status_of a ≡ status_of b) × (err_text a ≡ err_text b)
 check_reports done a b (v, is, p) (w, js, q) =

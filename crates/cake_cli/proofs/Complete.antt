@@ -1,16 +1,16 @@
 -- The reader reads each unit of the grammar, and gives its value.
-use Rattle.std.proofs.Common.{◌≡◌, ℕ, List, [], ◌∷◌, ◌++◌, map, take, Option, Some, None, Result, Ok, pos, refl, sym, ap, ◌∙◌, subst, arith, append_assoc, length}
-use Rattle.std.proofs.lemmas.List.{length-map}
+use Rattle.std.proofs.Common.{◌≡◌, ℕ, ◌+◌, List, [], ◌∷◌, ◌++◌, map, take, Option, Some, None, Result, Ok, pos, refl, sym, ap, ◌∙◌, subst, arith, append_assoc, length}
+use Rattle.std.proofs.lemmas.List.{length-append, length-map}
 use Rattle.std.specs.Prelude.{codes}
-use Rattle.c_model.specs.declared.numbers.BinOp.{BinOp}
-use Rattle.c_model.specs.declared.numbers.BinOp.TheVariants.{Mul, Add, Sub}
-use Rattle.c_model.specs.Core.{Expr}
-use Rattle.c_model.specs.declared.tokens.CKind.{CKind}
-use Rattle.c_model.specs.declared.tokens.CKind.TheVariants.{Word, Name, Punct}
-use Rattle.c_model.specs.declared.tokens.CTok.{CTok}
-use Rattle.c_model.specs.declared.tokens.TokenRule.{TokenRule}
-use Rattle.c_model.specs.FirstUnit.{IsSpelled, IsSum, IsProduct, IsPrimary, one_product, added, subtracted, one_primary, multiplied, constant, parenthesised, returning, IsConstant, IsUnit, int_constant, int_operation}
-use Rattle.c_model.specs.Core.{Core}
+use Rattle.model_types.specs.declared.numbers.BinOp.{BinOp}
+use Rattle.model_types.specs.declared.numbers.BinOp.TheVariants.{Mul, Add, Sub}
+use Rattle.model_core.specs.Core.{Expr}
+use Rattle.model_tokens.specs.declared.tokens.CKind.{CKind}
+use Rattle.model_tokens.specs.declared.tokens.CKind.TheVariants.{Word, Name, Punct}
+use Rattle.model_tokens.specs.declared.tokens.CTok.{CTok}
+use Rattle.model_tokens.specs.declared.tokens.TokenRule.{TokenRule}
+use Rattle.c_model.specs.FirstUnit.{IsSpelled, IsSum, IsProduct, IsPrimary, one_product, added, subtracted, one_primary, multiplied, constant, parenthesised, returning, places_of, IsConstant, IsUnit, int_constant, int_operation}
+use Rattle.model_core.specs.Core.{Core}
 use Rattle.cake_cli.specs.Reader.{Front, Operand, Operator, Whole, Waiting, Open, nothing_open, joined, closed, front_rank, past_sign}
 use Rattle.cake_cli.specs.Sorts.{Sign, sort_of}
 use Rattle.cake_cli.proofs.SortLaws.{front_kinds, head_kinds, return_sort, times_sort, plus_sort, minus_sort}
@@ -145,6 +145,22 @@ same_front [] (y ∷ ys) a b l e = absurd (omega (arith, l))
 same_front (x ∷ xs) [] a b l e = absurd (omega (arith, l))
 same_front (x ∷ xs) (y ∷ ys) a b l e = same_front xs ys a b (omega (arith, l)) (let rest : xs ++ a ≡ ys ++ b = cc in rest)
 
+same_beginning : (xs ys a b : List CTok) → length xs ≡ length ys → xs ++ a ≡ ys ++ b → xs ≡ ys
+same_beginning [] [] a b l e = refl
+same_beginning [] (y ∷ ys) a b l e = absurd (omega (arith, l))
+same_beginning (x ∷ xs) [] a b l e = absurd (omega (arith, l))
+same_beginning (x ∷ xs) (y ∷ ys) a b l e =
+    let first : x ≡ y = cc in
+    let others : xs ≡ ys = same_beginning xs ys a b (omega (arith, l)) (let rest : xs ++ a ≡ ys ++ b = cc in rest) in
+    cc
+
+-- behind equal words, the last of two lists that end in two tokens
+same_last : (xs ys : List CTok) (s t b c : CTok) → xs ++ s ∷ b ∷ [] ≡ ys ++ t ∷ c ∷ [] → b ≡ c
+same_last xs ys s t b c e =
+    let sizes : length xs + 2 ≡ length ys + 2 = sym (length-append xs (s ∷ b ∷ [])) ∙ ap length e ∙ length-append ys (t ∷ c ∷ []) in
+    let ends : s ∷ b ∷ [] ≡ t ∷ c ∷ [] = same_front xs ys (s ∷ b ∷ []) (t ∷ c ∷ []) (omega (arith, sizes)) e in
+    cc
+
 pub one_unit : (ts : List CTok) (core other : Core) → IsUnit ts core → IsUnit ts other → core ≡ other
 one_unit ts core other p q =
     let value : Some (Whole p.value) ≡ Some (Whole q.value) = sym (unit_read ts core p) ∙ unit_read ts other q in
@@ -152,4 +168,12 @@ one_unit ts core other p q =
     let sizes : length p.head ≡ length q.head = sym (length-map p.head (λ t. kind_of t)) ∙ ap length (p.head_is ∙ sym q.head_is) ∙ length-map q.head (λ t. kind_of t) in
     let rest = same_front p.head q.head _ _ sizes (sym p.parts ∙ q.parts) in
     let word : p.return_ ≡ q.return_ = cc in
-    p.core_is ∙ ap (λ v. returning v p.return_.place) same ∙ ap (λ t. returning q.value t.place) word ∙ sym q.core_is
+    let behind : p.sum ++ p.semicolon ∷ p.brace ∷ [] ≡ q.sum ++ q.semicolon ∷ q.brace ∷ [] = cc in
+    let brace = same_last p.sum q.sum p.semicolon q.semicolon p.brace q.brace behind in
+    let head = same_beginning p.head q.head _ _ sizes (sym p.parts ∙ q.parts) in
+    p.core_is
+    ∙ ap (λ v. returning v (places_of p.head p.return_ p.brace)) same
+    ∙ ap (λ h. returning q.value (places_of h p.return_ p.brace)) head
+    ∙ ap (λ t. returning q.value (places_of q.head t p.brace)) word
+    ∙ ap (λ t. returning q.value (places_of q.head q.return_ t)) brace
+    ∙ sym q.core_is

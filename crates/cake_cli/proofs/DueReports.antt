@@ -4,24 +4,25 @@ use Rattle.cake_base.specs.declared.places.Place.{Place}
 use Rattle.cake_base.specs.declared.rules.Family.TheVariants.{S}
 use Rattle.cake_base.specs.declared.rules.Fault.{Fault}
 use Rattle.cake_base.specs.Outside.{Held, FilesView}
-use Rattle.c_model.specs.declared.directives.ReadCause.TheVariants as cause
-use Rattle.c_model.specs.declared.tokens.CTok.{CTok}
-use Rattle.c_model.specs.declared.words.Mode.{Mode}
-use Rattle.c_model.specs.declared.words.Mode.TheVariants.{Translate, Expand, Check}
-use Rattle.c_model.specs.CTokens.{c_tokens_of}
+use Rattle.model_preprocessing.specs.declared.directives.ReadCause.TheVariants as cause
+use Rattle.model_tokens.specs.declared.tokens.CTok.{CTok}
+use Rattle.cake_cli.specs.declared.modes.Mode.{Mode}
+use Rattle.cake_cli.specs.declared.modes.Mode.TheVariants.{Translate, Expand, Check}
+use Rattle.model_tokens.specs.CTokens.{c_tokens_of}
 use Rattle.c_model.specs.FirstUnit.{returning, token_place}
-use Rattle.c_model.specs.TerminalsOf.{terminals_of}
-use Rattle.c_model.specs.UnitSyntax.{IsFault, IsTooDeep}
-use Rattle.c_model.specs.PreprocessedUnit.{Prepared, preprocessed, unit}
-use Rattle.c_model.specs.Processes.{NotHeld, Stop, broken, passed, unread, Log, Refusal, Process, gives, refuses, asks}
-use Rattle.c_model.specs.Verdict.{Verdict, Stopped, NotBuilt, IsCore, HasTree, IsVerdictOn, IsVerdictOf, IsVerdict}
-use Rattle.c_model.specs.Words.{Plan}
-use Rattle.c_model.specs.Answer.{Answer, Usage, answer_to_stop, answer_to, log_of, expanded, IsAnswerIn}
+use Rattle.model_grammar.specs.declared.grammar.Tree.{Tree}
+use Rattle.model_grammar.specs.TerminalsOf.{terminals_of}
+use Rattle.grammar_laws.specs.UnitSyntax.{IsUnit, IsFault, IsTooDeep}
+use Rattle.model_preprocessing.specs.PreprocessedUnit.{Prepared, preprocessed, unit, log_of}
+use Rattle.model_preprocessing.specs.Processes.{Stop, broken, passed, unread, Log, Refusal, Process, gives}
+use Rattle.cake_cli.specs.Verdict.{Verdict, Stopped, NotBuilt, IsCore, HasForm, IsVerdictOn, IsVerdictOf, IsVerdict}
+use Rattle.cake_cli.specs.Words.{Plan}
+use Rattle.cake_cli.specs.Answer.{Answer, Usage, answer_to_stop, answer_to, expanded, IsAnswerIn}
 use Rattle.pp_directives.specs.declared.errors.PrepError.{PrepError}
 use Rattle.pp_directives.specs.declared.errors.PrepError.TheVariants as prep_error
 use Rattle.pp_directives.specs.Outcomes.{halted, Stops, Runs}
 use Rattle.pp_directives.specs.Promise as pp
-use Rattle.pp_directives.specs.Reads.{Asked, After, Reaches}
+use Rattle.pp_directives.specs.Reads.{Reaches}
 use Rattle.cake_cli.specs.declared.report.Report.{Report}
 use Rattle.cake_cli.specs.Call.{Call, ComesOf, IsDueIn, IsDue}
 use Rattle.cake_cli.specs.Promise.{ReadsEach}
@@ -29,30 +30,15 @@ use Rattle.cake_cli.specs.Reader as reader
 use Rattle.cake_cli.specs.ReadsAs.{ReadsAs}
 use Rattle.cake_cli.specs.Reports.{IsReport, ReportsDone, ReportsStop, ReportsPlan, stop_of}
 use Rattle.cake_cli.proofs.ReadCounts.{IsOver, count_reached}
-use Rattle.c_model.proofs.SomeAnswer.{answered}
+use Rattle.cake_cli.proofs.UnitForms.{unit_has_form}
+use Rattle.cake_cli.proofs.UntoldReads.{reaches_comes, some_done}
+use Rattle.grammar_laws.proofs.answers.AtLeastOneAnswer.{answered}
 use Rattle.cake_cli.proofs.Verdicts.{reading_says}
 
--- ---- what preprocessing comes to
-
-after_comes : (p q : Process Prepared) (reads : List Asked) (done : Result Prepared Refusal) → After p reads q → ComesOf q done → ComesOf p done
-after_comes p q [] done e h = subst (λ x. ComesOf x done) (sym e) h
-after_comes (gives unit) q (r ∷ rs) done e h = absurd e
-after_comes (refuses refusal) q (r ∷ rs) done e h = absurd e
-after_comes (asks name next) q (r ∷ rs) done (named, rest) h = (r.answer, after_comes (next r.answer) q rs done rest h)
-
-reaches_comes : (old new : FilesView) (p q : Process Prepared) (done : Result Prepared Refusal) → Reaches old new p q → ComesOf q done → ComesOf p done
-reaches_comes old new p q done (reads, are, after) h = after_comes p q reads done after h
-
--- some answers lead to something
-some_done : (p : Process Prepared) → (done : Result Prepared Refusal) × ComesOf p done
-some_done (gives unit) = (Ok unit, refl)
-some_done (refuses refusal) = (Err refusal, refl)
-some_done (asks name next) = let rest = some_done (next NotHeld) in (rest.0, (NotHeld, rest.1))
-
 -- the answer in a mode to what preprocessing gives is due
-due_by : (told : Option Held) (plan : Plan) (p : Process Prepared) (done : Result Prepared Refusal) (due : Answer) → ((held : Held) → told ≡ Some held → preprocessed held plan.options plan.file ≡ done) → ComesOf (unit plan.options plan.file) done → IsAnswerIn plan.mode done due → IsDueIn told plan due
-due_by None plan p done due held comes is = (done, comes, is)
-due_by (Some h) plan p done due held comes is = subst (λ d. IsAnswerIn plan.mode d due) (sym (held h refl)) is
+due_by : (told : Option Held) (c : Call) (plan : Plan) (done : Result Prepared Refusal) (due : Answer) → ((held : Held) → told ≡ Some held → preprocessed held plan.options plan.file ≡ done) → (told ≡ None → ComesOf c.files c.files' (unit plan.options plan.file) done) → IsAnswerIn plan.mode done due → IsDueIn told c.files c.files' plan due
+due_by None c plan done due held comes is = (done, comes refl, is)
+due_by (Some h) c plan done due held comes is = subst (λ d. IsAnswerIn plan.mode d due) (sym (held h refl)) is
 
 -- ---- how many reads there were
 
@@ -68,7 +54,7 @@ held_done (Some h) plan prep log due held e = ap (λ x. preprocessed x plan.opti
 
 pub prepared_reported : (plan : Plan) (prep : pp.Prep) (log : Log) (c : Call) (r : Report) → pp.IsDue c.files.held plan.options plan.file (Ok prep) log → Runs c.files c.files' (unit plan.options plan.file) (Ok prep) (pp.with_log log) log → ReportsDone plan.mode (Ok (pp.with_log log prep)) r → ReportsPlan plan c r
 prepared_reported plan prep log c r due answered (answer, is, report) =
-    inl (answer, due_by c.files.held plan (unit plan.options plan.file) (Ok (pp.with_log log prep)) answer (held_done c.files.held plan prep log due) (reaches_comes c.files c.files' _ _ _ answered refl) is, report, each_read c.files.held plan c.files c.files' (gives (pp.with_log log prep)) refl answered tt)
+    inl (answer, due_by c.files.held c plan (Ok (pp.with_log log prep)) answer (held_done c.files.held plan prep log due) (λ untold. reaches_comes c.files c.files' _ _ _ untold answered refl) is, report, each_read c.files.held plan c.files c.files' (gives (pp.with_log log prep)) refl answered tt)
 
 -- ---- the report where it stops
 
@@ -79,7 +65,7 @@ stop_answer Check refusal = (Stopped refusal.stop, refl, refl)
 
 stopped_reported : (plan : Plan) (stop : Stop) (log : Log) (c : Call) (r : Report) → ((held : Held) → c.files.held ≡ Some held → preprocessed held plan.options plan.file ≡ pp.refused stop log) → Reaches c.files c.files' (unit plan.options plan.file) (halted stop log) → IsReport (answer_to_stop log stop) r → ReportsPlan plan c r
 stopped_reported plan stop log c r held reaches report =
-    inl (answer_to_stop log stop, due_by c.files.held plan (unit plan.options plan.file) (pp.refused stop log) _ held (reaches_comes c.files c.files' _ _ _ reaches refl) (stop_answer plan.mode (record { stop = stop; log = log })), report, each_read c.files.held plan c.files c.files' (halted stop log) refl reaches tt)
+    inl (answer_to_stop log stop, due_by c.files.held c plan (pp.refused stop log) _ held (λ untold. reaches_comes c.files c.files' _ _ _ untold reaches refl) (stop_answer plan.mode (record { stop = stop; log = log })), report, each_read c.files.held plan c.files c.files' (halted stop log) refl reaches tt)
 
 held_stop : (told : Option Held) (plan : Plan) (error : PrepError) (stop : Stop) (log : Log) → ((held : Held) → pp.IsDueStop (preprocessed held plan.options plan.file) error log → preprocessed held plan.options plan.file ≡ pp.refused stop log) → pp.IsDue told plan.options plan.file (Err error) log → (held : Held) → told ≡ Some held → preprocessed held plan.options plan.file ≡ pp.refused stop log
 held_stop None plan error stop log by due held e = absurd (let h : None ≡ Some held = e in cc)
@@ -103,12 +89,12 @@ stop_reported plan prep_error.NoMemory log c r due failed stops (stop, is, repor
 
 -- ---- each unit has a verdict, and each call an answer
 
-tree_verdict : (tokens : List CTok) (end : Place) (r : reader.Reading) → HasTree tokens → ReadsAs tokens end r → (v : Verdict) × IsVerdictOn tokens end v
-tree_verdict tokens end (reader.Stops place) tree is = (NotBuilt place, (tree, is.0, is.1, is.2))
-tree_verdict tokens end (reader.Reads value) tree is = (IsCore (returning value is.0), (tree, is.1))
+form_verdict : (tokens : List CTok) (end : Place) (r : reader.Reading) → HasForm tokens → ReadsAs tokens end r → (v : Verdict) × IsVerdictOn tokens end v
+form_verdict tokens end (reader.Stops place) form is = (NotBuilt form.0 place, (form.1, is.0, is.1, is.2))
+form_verdict tokens end (reader.Reads value) form is = (IsCore form.0 (returning value is.0), (form.1, is.1))
 
-tokens_verdict : (tokens : List CTok) (end : Place) → HasTree tokens ⊎ ((k : ℕ) × IsFault (terminals_of tokens) k) ⊎ ((k : ℕ) × IsTooDeep (terminals_of tokens) k) → (v : Verdict) × IsVerdictOn tokens end v
-tokens_verdict tokens end (inl tree) = tree_verdict tokens end (reader.read_unit tokens end) tree (reading_says tokens end)
+tokens_verdict : (tokens : List CTok) (end : Place) → ((xs : List Tree) × IsUnit (terminals_of tokens) xs) ⊎ ((k : ℕ) × IsFault (terminals_of tokens) k) ⊎ ((k : ℕ) × IsTooDeep (terminals_of tokens) k) → (v : Verdict) × IsVerdictOn tokens end v
+tokens_verdict tokens end (inl (xs, is)) = form_verdict tokens end (reader.read_unit tokens end) (unit_has_form tokens xs is) (reading_says tokens end)
 tokens_verdict tokens end (inr (inl (k, is))) = (Stopped (broken (record { place = token_place tokens end k; rule = record { family = S; number = 1 } })), (k, is, refl))
 tokens_verdict tokens end (inr (inr (k, is))) = (Stopped (passed (record { place = token_place tokens end k; limit = record { number = 6 } })), (k, is, refl))
 
@@ -125,10 +111,10 @@ answer_in Expand done = (expanded done, refl)
 answer_in Translate done = let v = every_verdict done in (answer_to Translate (log_of done) v.0, (v.0, v.1, refl))
 answer_in Check done = let v = every_verdict done in (answer_to Check (log_of done) v.0, (v.0, v.1, refl))
 
-due_in : (told : Option Held) (plan : Plan) → (due : Answer) × IsDueIn told plan due
-due_in (Some held) plan = answer_in plan.mode (preprocessed held plan.options plan.file)
-due_in None plan = let done = some_done (unit plan.options plan.file) in let a = answer_in plan.mode done.0 in (a.0, (done.0, done.1, a.1))
+due_in : (told : Option Held) (c : Call) (plan : Plan) → (due : Answer) × IsDueIn told c.files c.files' plan due
+due_in (Some held) c plan = answer_in plan.mode (preprocessed held plan.options plan.file)
+due_in None c plan = let done = some_done c.files c.files' (unit plan.options plan.file) in let a = answer_in plan.mode done.0 in (a.0, (done.0, done.1, a.1))
 
 pub some_due : (plan : Result Plan ℕ) (c : Call) → (due : Answer) × IsDue plan c due
-some_due (Ok plan) c = due_in c.files.held plan
+some_due (Ok plan) c = due_in c.files.held c plan
 some_due (Err number) c = (Usage number, refl)

@@ -1,8 +1,8 @@
 -- The text of tokens, one token further.
 use Rattle.std.proofs.Common.{◌≡◌, ℕ, suc, ◌+◌, List, [], ◌∷◌, ◌++◌, length, drop, slice_get, Option, Some, None, refl, sym, ap, ◌∙◌, append_assoc, arith}
 use Rattle.cake_base.specs.declared.places.Place.{Place}
-use Rattle.c_model.specs.PpTokens.{PpToken}
-use Rattle.c_model.specs.ExpandedText.{parting, behind_token}
+use Rattle.model_tokens.specs.PpTokens.{PpToken}
+use Rattle.cake_cli.specs.ExpandedText.{parting, behind_token}
 use Rattle.cake_cli.specs.Behind.{token_behind, text_behind}
 use Rattle.cake_cli.proofs.GetLaws.{drop_get}
 

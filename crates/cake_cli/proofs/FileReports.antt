@@ -1,9 +1,9 @@
 -- The report of a plan, by what preprocessing answered.
 use Rattle.std.proofs.Common.{Result, Ok, Err, IfOk}
 use Rattle.cake_base.specs.Outside.{FilesView, SinkView}
-use Rattle.c_model.specs.PreprocessedUnit.{unit}
-use Rattle.c_model.specs.Processes.{Log}
-use Rattle.c_model.specs.Words.{Plan}
+use Rattle.model_preprocessing.specs.PreprocessedUnit.{unit}
+use Rattle.model_preprocessing.specs.Processes.{Log}
+use Rattle.cake_cli.specs.Words.{Plan}
 use Rattle.pp_directives.specs.declared.errors.PrepError.{PrepError}
 use Rattle.pp_directives.specs.Outcomes.{Runs}
 use Rattle.pp_directives.specs.Promise as pp

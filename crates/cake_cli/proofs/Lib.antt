@@ -21,3 +21,5 @@ pub mod Pushes
 pub mod NoteLaws
 pub mod AnswerLaws
 pub mod ReadCounts
+pub mod UntoldReads
+pub mod UnitForms

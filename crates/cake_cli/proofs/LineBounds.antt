@@ -3,11 +3,11 @@ use Rattle.std.proofs.Common.{◌≡◌, ℕ, ◌+◌, ◌-◌, ◌*◌, ◌<◌
 use Rattle.std.specs.Prelude.{codes}
 use Rattle.std.specs.Str.{bytes_eq}
 use Rattle.std.proofs.lemmas.Bool.Decides.{nat_tests}
-use Rattle.c_model.specs.declared.words.Mode.{Mode}
-use Rattle.c_model.specs.declared.words.Mode.TheVariants.{Translate}
-use Rattle.c_model.specs.CTokens.{is_identifier}
-use Rattle.c_model.specs.PreprocessedUnit.{Options, define_text, command_lines}
-use Rattle.c_model.specs.Words.{Plan, Expected, AnyWord, Definition, Directory, Meaning, Asks, Defines, Searches, Names, Expects, EndsOptions, Nothing, Met, defined_name, defined_value, has_line_feed, definition, directory, behind_define, behind_search, long_option, behind_dash, any_word, meaning_as, meaning, is_good, may_stand, said, behind, with_option, adds, named, at_end, plan_from, nothing_met, plan}
+use Rattle.cake_cli.specs.declared.modes.Mode.{Mode}
+use Rattle.cake_cli.specs.declared.modes.Mode.TheVariants.{Translate}
+use Rattle.model_tokens.specs.CTokens.{is_identifier}
+use Rattle.model_preprocessing.specs.PreprocessedUnit.{Options, define_text, command_lines}
+use Rattle.cake_cli.specs.Words.{Plan, Expected, AnyWord, Definition, Directory, Meaning, Asks, Defines, Searches, Names, Expects, EndsOptions, Nothing, Met, defined_name, defined_value, has_line_feed, definition, directory, behind_define, behind_search, long_option, behind_dash, any_word, meaning_as, meaning, is_good, may_stand, said, behind, with_option, adds, named, at_end, plan_from, nothing_met, plan}
 
 -- the bytes of the line that a word asks for
 abbrev cost : Meaning → ℕ

@@ -4,19 +4,19 @@ use Rattle.cake_base.specs.declared.places.Place.{Place}
 use Rattle.cake_base.specs.declared.rules.Family.TheVariants.{S}
 use Rattle.cake_base.specs.declared.rules.Fault.{Fault}
 use Rattle.cake_base.specs.declared.rules.LimitHit.{LimitHit}
-use Rattle.c_model.specs.declared.tokens.CTok.{CTok}
-use Rattle.c_model.specs.declared.words.Mode.{Mode}
-use Rattle.c_model.specs.declared.words.Mode.TheVariants.{Translate, Expand, Check}
-use Rattle.c_model.specs.CTokens.{c_tokens_of}
-use Rattle.c_model.specs.ExpandedText.{expanded_text}
-use Rattle.c_model.specs.FirstUnit.{returning, token_place}
-use Rattle.c_model.specs.PreprocessedUnit.{Prepared}
-use Rattle.c_model.specs.Processes.{Stop, broken, passed, Log}
-use Rattle.c_model.specs.ReportLines.{notes_text}
-use Rattle.c_model.specs.Spelling89.{canonical}
-use Rattle.c_model.specs.Verdict.{Stopped, NotBuilt, IsCore, HasTree, IsVerdictOf}
+use Rattle.model_tokens.specs.declared.tokens.CTok.{CTok}
+use Rattle.cake_cli.specs.declared.modes.Mode.{Mode}
+use Rattle.cake_cli.specs.declared.modes.Mode.TheVariants.{Translate, Expand, Check}
+use Rattle.model_tokens.specs.CTokens.{c_tokens_of}
+use Rattle.cake_cli.specs.ExpandedText.{expanded_text}
+use Rattle.c_model.specs.FirstUnit.{UnitPlaces, returning, token_place}
+use Rattle.model_preprocessing.specs.PreprocessedUnit.{Prepared}
+use Rattle.model_preprocessing.specs.Processes.{Stop, broken, passed, Log}
+use Rattle.cake_cli.specs.ReportLines.{notes_text}
+use Rattle.model_c89.specs.Spelling89.{canonical}
+use Rattle.cake_cli.specs.Verdict.{Stopped, NotBuilt, IsCore, HasForm, IsVerdictOf}
 use Rattle.c_parser.specs.Answers.{place_of, IsSyntaxError, IsDepthLimit}
-use Rattle.c_model.specs.Answer.{Refused, Unbuilt, Limited, Written, Tokens, answer_to_stop, answer_to, delivery_of, IsAnswerIn}
+use Rattle.cake_cli.specs.Answer.{Refused, Unbuilt, Limited, Written, Tokens, answer_to_stop, answer_to, delivery_of, IsAnswerIn}
 use Rattle.pp_directives.specs.declared.errors.PrepError.{PrepError}
 use Rattle.cake_cli.specs.declared.expression.Expr.{Expr}
 use Rattle.cake_cli.specs.declared.report.Report.{Report}
@@ -43,23 +43,23 @@ module _ {E : Type 0} where
   stop_report (Err x) error log stop e is = tt
 
   -- the text of a unit
-  pub text_delivers : (r : Result (List ℕ) E) (mode : Mode) (value : Expr) → mode ≡ Translate → IfOk r (λ text. text ≡ canonical (program_of (target_of value))) → IfOk r (λ text. (place : Place) → IsDelivered (delivery_of mode (returning (expr_of value) place)) text)
-  text_delivers (Ok text) mode value e is = λ place. subst (λ m. IsDelivered (delivery_of m (returning (expr_of value) place)) text) (sym e) (delivers value place text is)
+  pub text_delivers : (r : Result (List ℕ) E) (mode : Mode) (value : Expr) → mode ≡ Translate → IfOk r (λ text. text ≡ canonical (program_of (target_of value))) → IfOk r (λ text. (places : UnitPlaces) → IsDelivered (delivery_of mode (returning (expr_of value) places)) text)
+  text_delivers (Ok text) mode value e is = λ places. subst (λ m. IsDelivered (delivery_of m (returning (expr_of value) places)) text) (sym e) (delivers value places text is)
   text_delivers (Err x) mode value e is = tt
 
   -- reading stops at a token
-  pub stop_tree : (r : Result Report E) (mode : Mode) (log : Log) (tokens : List CTok) (end place : Place) → HasTree tokens → reader.Stops place ≡ reader.read_unit tokens end → IfOk r (IsReport (Unbuilt log place)) → IfOk r (ReportsTokens mode log tokens end)
-  stop_tree (Ok r) mode log tokens end place tree reads is =
+  pub stop_tree : (r : Result Report E) (mode : Mode) (log : Log) (tokens : List CTok) (end place : Place) → HasForm tokens → reader.Stops place ≡ reader.read_unit tokens end → IfOk r (IsReport (Unbuilt log place)) → IfOk r (ReportsTokens mode log tokens end)
+  stop_tree (Ok r) mode log tokens end place form reads is =
       let said : ReadsAs tokens end (reader.Stops place) = subst (ReadsAs tokens end) (sym reads) (reading_says tokens end) in
-      (NotBuilt place, (tree, said.0, said.1, said.2), is)
-  stop_tree (Err x) mode log tokens end place tree reads is = tt
+      (NotBuilt form.0 place, (form.1, said.0, said.1, said.2), is)
+  stop_tree (Err x) mode log tokens end place form reads is = tt
 
   -- a whole unit
-  pub unit_tree : (r : Result Report E) (mode : Mode) (log : Log) (tokens : List CTok) (end : Place) (value : Expr) (out : List ℕ) → HasTree tokens → reader.Reads (expr_of value) ≡ reader.read_unit tokens end → ((place : Place) → IsDelivered (delivery_of mode (returning (expr_of value) place)) out) → IfOk r (λ r. r.status ≡ status.Written) → IfOk r (λ r. r.out ≡ out) → IfOk r (λ r. r.err ≡ notes_text log) → IfOk r (ReportsTokens mode log tokens end)
-  unit_tree (Ok r) mode log tokens end value out tree reads delivered s o e =
+  pub unit_tree : (r : Result Report E) (mode : Mode) (log : Log) (tokens : List CTok) (end : Place) (value : Expr) (out : List ℕ) → HasForm tokens → reader.Reads (expr_of value) ≡ reader.read_unit tokens end → ((places : UnitPlaces) → IsDelivered (delivery_of mode (returning (expr_of value) places)) out) → IfOk r (λ r. r.status ≡ status.Written) → IfOk r (λ r. r.out ≡ out) → IfOk r (λ r. r.err ≡ notes_text log) → IfOk r (ReportsTokens mode log tokens end)
+  unit_tree (Ok r) mode log tokens end value out form reads delivered s o e =
       let said : ReadsAs tokens end (reader.Reads (expr_of value)) = subst (ReadsAs tokens end) (sym reads) (reading_says tokens end) in
-      (IsCore (returning (expr_of value) said.0), (tree, said.1), record { status = s; out = subst (IsDelivered (delivery_of mode (returning (expr_of value) said.0))) (sym o) (delivered said.0); err = e })
-  unit_tree (Err x) mode log tokens end value out tree reads delivered s o e = tt
+      (IsCore form.0 (returning (expr_of value) said.0), (form.1, said.1), record { status = s; out = subst (IsDelivered (delivery_of mode (returning (expr_of value) said.0))) (sym o) (delivered said.0); err = e })
+  unit_tree (Err x) mode log tokens end value out form reads delivered s o e = tt
 
   -- a syntax error, or the limit on nesting
   pub fault_tokens : (r : Result Report E) (mode : Mode) (log : Log) (tokens : List CTok) (end : Place) (fault : Fault) → IsSyntaxError tokens end fault → IfOk r (IsReport (Refused log fault)) → IfOk r (ReportsTokens mode log tokens end)

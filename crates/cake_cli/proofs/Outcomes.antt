@@ -1,9 +1,9 @@
 -- How a call comes out, case by case.
 use Rattle.std.specs.Prelude.{IsOk}
 use Rattle.std.proofs.Common.{◌≡◌, ℕ, true, false, List, [], Result, Ok, Err, refl, sym, ◌∙◌, subst, inl, inr}
-use Rattle.c_model.specs.ReportLines.{usage_line}
-use Rattle.c_model.specs.Words.{Plan}
-use Rattle.c_model.specs.Answer.{Answer, Usage, err_text}
+use Rattle.cake_cli.specs.ReportLines.{usage_line}
+use Rattle.cake_cli.specs.Words.{Plan}
+use Rattle.cake_cli.specs.Answer.{Answer, Usage, err_text}
 use Rattle.cake_cli.specs.declared.report.Report.{Report}
 use Rattle.cake_cli.specs.declared.status.Status.{Status}
 use Rattle.cake_cli.specs.declared.status.Status.TheVariants as status

@@ -3,8 +3,8 @@ use Rattle.std.proofs.Common.{◌≡◌, ℕ, suc, ◌+◌, List, [], ◌∷◌,
 use Rattle.std.proofs.Common.{◌<◌, length, get_or, drop, map, subst}
 use Rattle.std.proofs.Math.Seq.{drop-cons}
 use Rattle.std.specs.Prelude.{IfOk}
-use Rattle.c_model.specs.PreprocessedUnit.{Options, command_lines}
-use Rattle.c_model.specs.Words.{Plan, Meaning, Asks, Defines, Searches, Names, Expects, EndsOptions, Nothing, Met, meaning, is_good, behind, with_option, adds, plan_from, plan}
+use Rattle.model_preprocessing.specs.PreprocessedUnit.{Options, command_lines}
+use Rattle.cake_cli.specs.Words.{Plan, Meaning, Asks, Defines, Searches, Names, Expects, EndsOptions, Nothing, Met, meaning, is_good, behind, with_option, adds, plan_from, plan}
 use Rattle.cake_cli.specs.WordsRead.{step, Leads, both, prefixed, with_meaning, plan_as, Answers}
 use Rattle.cake_cli.specs.declared.words.Plan as code
 use Rattle.cake_cli.specs.declared.words.WordsError.{WordsError}

@@ -3,17 +3,17 @@ use Rattle.std.proofs.Common.{◌≡◌, ◌≢◌, ◌⊎◌, ℕ, ◌≤◌, L
 use Rattle.std.proofs.lemmas.List.{append-nil}
 use Rattle.std.proofs.Math.Seq.{take-length}
 use Rattle.cake_base.specs.Outside.{Held, appended}
-use Rattle.c_model.specs.declared.words.Mode.{Mode}
-use Rattle.c_model.specs.declared.words.Mode.TheVariants.{Translate, Expand, Check}
-use Rattle.c_model.specs.PreprocessedUnit.{Prepared, preprocessed}
-use Rattle.c_model.specs.Processes.{Stop, broken, passed, unread, Log, Refusal}
-use Rattle.c_model.specs.Verdict.{Verdict, Stopped, NotBuilt, IsCore}
-use Rattle.c_model.specs.Words.{Plan}
-use Rattle.c_model.specs.Answer.{Delivery, Answer, Usage, Unreadable, Refused, Unbuilt, Limited, Written, err_text, answer_to_stop, answer_to, log_of, expanded, IsAnswerIn}
+use Rattle.cake_cli.specs.declared.modes.Mode.{Mode}
+use Rattle.cake_cli.specs.declared.modes.Mode.TheVariants.{Translate, Expand, Check}
+use Rattle.model_preprocessing.specs.PreprocessedUnit.{Prepared, preprocessed, log_of}
+use Rattle.model_preprocessing.specs.Processes.{Stop, broken, passed, unread, Log, Refusal}
+use Rattle.cake_cli.specs.Verdict.{Verdict, Stopped, NotBuilt, IsCore}
+use Rattle.cake_cli.specs.Words.{Plan}
+use Rattle.cake_cli.specs.Answer.{Delivery, Answer, Usage, Unreadable, Refused, Unbuilt, Limited, Written, err_text, answer_to_stop, answer_to, expanded, IsAnswerIn}
 use Rattle.cake_cli.specs.declared.status.Status.{Status}
 use Rattle.cake_cli.specs.declared.status.Status.TheVariants as status
 use Rattle.cake_cli.specs.Call.{Call, IsDueIn, IsDue}
-use Rattle.cake_cli.specs.Promise.{ReadFailed, NothingOnOut, NothingOnErr, PutsOnOut, PutsOnErr, PutsPrefixOnErr, ForDue, AreRead, AreBad, IsWritten, IsRefused, IsUnreadable, IsLimited, IsExcused, Exactly, IsDelivered, PutsText, IsFailedRead, IsFailedText, ErrGets, PutFailed, NoFault, ReadsAll}
+use Rattle.cake_cli.specs.Promise.{ReadFailed, NothingOnOut, NothingOnErr, PutsOnOut, PutsOnErr, PutsPrefixOnErr, ForDue, AreRead, AreBad, IsWritten, IsRefused, IsUnreadable, IsLimited, IsExcused, Exactly, IsDelivered, PutsText, IsFailedRead, IsFailedText, ErrGets, PutFailed, NoFault, Meets, ReadsAll}
 use Rattle.cake_cli.specs.Reports.{status_of, IsOutText, all_put, err_failed, out_failed, Outcome, as_due, no_memory, failed_read, unread_answer}
 use Rattle.cake_cli.proofs.Outcomes.{ComesOut}
 
@@ -186,8 +186,8 @@ stop_isnt_usage log (unread file cause) e = let h : status.ReadFault ≡ status.
 
 verdict_isnt_usage : (mode : Mode) (log : Log) (v : Verdict) → status_of (answer_to mode log v) ≡ status.Usage → ⊥
 verdict_isnt_usage mode log (Stopped stop) e = stop_isnt_usage log stop e
-verdict_isnt_usage mode log (NotBuilt place) e = let h : status.Refused ≡ status.Usage = e in cc
-verdict_isnt_usage mode log (IsCore core) e = let h : status.Written ≡ status.Usage = e in cc
+verdict_isnt_usage mode log (NotBuilt unit place) e = let h : status.Refused ≡ status.Usage = e in cc
+verdict_isnt_usage mode log (IsCore unit core) e = let h : status.Written ≡ status.Usage = e in cc
 
 expanded_isnt_usage : (done : Result Prepared Refusal) → status_of (expanded done) ≡ status.Usage → ⊥
 expanded_isnt_usage (Ok unit) e = let h : status.Written ≡ status.Usage = e in cc
@@ -198,13 +198,13 @@ answer_isnt_usage Expand done due is e = expanded_isnt_usage done (sym (ap statu
 answer_isnt_usage Translate done due (v, is, a) e = verdict_isnt_usage Translate (log_of done) v (sym (ap status_of a) ∙ e)
 answer_isnt_usage Check done due (v, is, a) e = verdict_isnt_usage Check (log_of done) v (sym (ap status_of a) ∙ e)
 
-due_isnt_usage : (told : Option Held) (p : Plan) (due : Answer) → IsDueIn told p due → status_of due ≡ status.Usage → ⊥
-due_isnt_usage (Some held) p due is e = answer_isnt_usage p.mode (preprocessed held p.options p.file) due is e
-due_isnt_usage None p due (done, comes, is) e = answer_isnt_usage p.mode done due is e
+due_isnt_usage : (told : Option Held) (c : Call) (p : Plan) (due : Answer) → IsDueIn told c.files c.files' p due → status_of due ≡ status.Usage → ⊥
+due_isnt_usage (Some held) c p due is e = answer_isnt_usage p.mode (preprocessed held p.options p.file) due is e
+due_isnt_usage None c p due (done, comes, is) e = answer_isnt_usage p.mode done due is e
 
 usage_bad : (plan : Result Plan ℕ) (c : Call) (due : Answer) → IsDue plan c due → status_of due ≡ status.Usage → AreBad plan
 usage_bad (Err number) c due is e = tt
-usage_bad (Ok p) c due is e = absurd (due_isnt_usage c.files.held p due is e)
+usage_bad (Ok p) c due is e = absurd (due_isnt_usage c.files.held c p due is e)
 
 status_due : (plan : Result Plan ℕ) (due : Answer) (c : Call) (result wanted : Status) → (IsExcused wanted plan c → ⊥) → Outcome plan due c result → result ≡ wanted → status_of due ≡ wanted
 status_due plan due c result wanted never out e =
@@ -216,39 +216,36 @@ usage plan c result (due, is, out) = (
   λ bad. by_status due plan c result status.Usage (bad_by plan c due bad is) (status_is plan due c result out),
 )
 
+refused_by : (plan : Result Plan ℕ) (due : Answer) (c : Call) (result : Status) → Outcome plan due c result → Exactly (result ≡ status.Refused) (IsRefused due) (IsExcused result plan c)
+refused_by plan due c result out = (
+  λ e. refused_due due (status_due plan due c result status.Refused (λ x. x) out e),
+  λ r. by_status due plan c result status.Refused (due_refused due r) (status_is plan due c result out),
+)
+
 pub refused : (plan : Result Plan ℕ) (c : Call) (result : Status) → ComesOut plan c result → ForDue plan c (λ due. Exactly (result ≡ status.Refused) (IsRefused due) (IsExcused result plan c))
-refused plan c result (due, is, out) = (
-  due,
-  is,
-  (
-    λ e. refused_due due (status_due plan due c result status.Refused (λ x. x) out e),
-    λ r. by_status due plan c result status.Refused (due_refused due r) (status_is plan due c result out),
-  ),
+refused plan c result (due, is, out) = (due, is, refused_by plan due c result out)
+
+limit_by : (plan : Result Plan ℕ) (due : Answer) (c : Call) (result : Status) → Outcome plan due c result → Exactly (result ≡ status.Limit) (IsLimited due) (IsExcused result plan c)
+limit_by plan due c result out = (
+  λ e. limited_due due (status_due plan due c result status.Limit (λ x. x) out e),
+  λ r. by_status due plan c result status.Limit (due_limited due r) (status_is plan due c result out),
 )
 
 pub limit : (plan : Result Plan ℕ) (c : Call) (result : Status) → ComesOut plan c result → ForDue plan c (λ due. Exactly (result ≡ status.Limit) (IsLimited due) (IsExcused result plan c))
-limit plan c result (due, is, out) = (
-  due,
-  is,
-  (
-    λ e. limited_due due (status_due plan due c result status.Limit (λ x. x) out e),
-    λ r. by_status due plan c result status.Limit (due_limited due r) (status_is plan due c result out),
-  ),
-)
+limit plan c result (due, is, out) = (due, is, limit_by plan due c result out)
 
-read_fault_by : (plan : Result Plan ℕ) (due : Answer) (c : Call) (result : Status) → (result ≡ status_of due) ⊎ IsExcused result plan c → result ≡ status.ReadFault → IsUnreadable due ⊎ IsFailedRead plan c
-read_fault_by plan due c result (inl e) r = inl (unreadable_due due (sym e ∙ r))
-read_fault_by plan due c result (inr x) r = inr (subst (λ s. IsExcused s plan c) r x)
+unread_by : (plan : Result Plan ℕ) (due : Answer) (c : Call) (result : Status) → (result ≡ status_of due) ⊎ IsExcused result plan c → result ≡ status.ReadFault → IsUnreadable due ⊎ IsFailedRead plan c
+unread_by plan due c result (inl e) r = inl (unreadable_due due (sym e ∙ r))
+unread_by plan due c result (inr x) r = inr (subst (λ s. IsExcused s plan c) r x)
+
+read_fault_by : (plan : Result Plan ℕ) (due : Answer) (c : Call) (result : Status) → Outcome plan due c result → (result ≡ status.ReadFault → IsUnreadable due ⊎ IsFailedRead plan c) × (IsUnreadable due → (result ≡ status.ReadFault) ⊎ IsExcused result plan c)
+read_fault_by plan due c result out = (
+  λ r. unread_by plan due c result (status_is plan due c result out) r,
+  λ u. by_status due plan c result status.ReadFault (due_unreadable due u) (status_is plan due c result out),
+)
 
 pub read_fault : (plan : Result Plan ℕ) (c : Call) (result : Status) → ComesOut plan c result → ForDue plan c (λ due. (result ≡ status.ReadFault → IsUnreadable due ⊎ IsFailedRead plan c) × (IsUnreadable due → (result ≡ status.ReadFault) ⊎ IsExcused result plan c))
-read_fault plan c result (due, is, out) = (
-  due,
-  is,
-  (
-    λ r. read_fault_by plan due c result (status_is plan due c result out) r,
-    λ u. by_status due plan c result status.ReadFault (due_unreadable due u) (status_is plan due c result out),
-  ),
-)
+read_fault plan c result (due, is, out) = (due, is, read_fault_by plan due c result out)
 
 no_write_fault : (due : Answer) → status.WriteFault ≡ status_of due → ⊥
 no_write_fault (Usage n) e = let h : status.WriteFault ≡ status.Usage = e in cc
@@ -302,6 +299,23 @@ complete_by plan due c result (failed_read p pl file log f sent) w none = absurd
 
 pub complete : (plan : Result Plan ℕ) (c : Call) (result : Status) → ComesOut plan c result → ForDue plan c (λ due. IsWritten due → NoFault c → (result ≡ status.Written) ⊎ (result ≡ status.NoMemory))
 complete plan c result (due, is, out) = (due, is, complete_by plan due c result out)
+
+-- all of these of one answer
+
+pub meets : (plan : Result Plan ℕ) (c : Call) (result : Status) → ComesOut plan c result → ForDue plan c (λ due. Meets result plan due c)
+meets plan c result (due, is, out) = (
+  due,
+  is,
+  record {
+    written = λ w. written_by plan due c result out w;
+    err = err_by plan due c result out;
+    refused = refused_by plan due c result out;
+    read_fault = read_fault_by plan due c result out;
+    write_fault = λ w. write_fault_by plan due c result out w;
+    limit = limit_by plan due c result out;
+    complete = λ w none. complete_by plan due c result out w none;
+  },
+)
 
 -- nothing on out otherwise
 

@@ -2,7 +2,7 @@
 use Rattle.std.proofs.Common.{◌≡◌, ℕ, suc, ◌+◌, ◌<◌, ◌≤◌, List, [], ◌∷◌, length, Option, Some, None, true, false, nat_lt, if◌then◌else◌, refl, sym, ap, ◌∙◌, subst, arith}
 use Rattle.std.proofs.lemmas.Bool.Decides.{nat_tests}
 use Rattle.cake_base.specs.Outside.{Held, bytes_under, max_file, FilesView, OneMore, StandsUnder, IsMissing, IsTooLarge}
-use Rattle.c_model.specs.Processes.{ReadAnswer, NotHeld, Contents, TooLarge, Failed, answer_of, Process, gives, refuses, asks, reads}
+use Rattle.model_preprocessing.specs.Processes.{ReadAnswer, NotHeld, Contents, TooLarge, Failed, answer_of, Process, gives, refuses, asks, reads}
 use Rattle.pp_directives.specs.Promise.{RoseBy}
 use Rattle.pp_directives.specs.Reads.{Asked, Answers, Reads, After, Reaches}
 

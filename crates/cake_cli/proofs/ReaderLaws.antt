@@ -1,7 +1,7 @@
 -- Reading, one token further.
 use Rattle.std.proofs.Common.{◌≡◌, ℕ, ◌+◌, List, Option, Some, None, sym, ap, ◌∙◌, drop, slice_get}
 use Rattle.cake_base.specs.declared.places.Place.{Place}
-use Rattle.c_model.specs.declared.tokens.CTok.{CTok}
+use Rattle.model_tokens.specs.declared.tokens.CTok.{CTok}
 use Rattle.cake_cli.specs.Reader.{Stage, Reading, Stops, read_token, on_stage, read_from}
 use Rattle.cake_cli.proofs.GetLaws.{drop_get}
 

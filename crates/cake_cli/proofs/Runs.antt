@@ -1,48 +1,49 @@
 -- The written program reads, is flat, exports what the unit does and runs as it does.
-use Rattle.std.proofs.Common.{◌≡◌, ◌⊎◌, ℕ, zero, suc, List, [], ◌∷◌, Option, Some, None, Result, Ok, Err, Bool, true, false, ◌||◌, if◌then◌else◌, refl, sym, ap, ◌∙◌, subst, inl, inr}
+use Rattle.std.proofs.Common.{◌≡◌, ◌⊎◌, ◌<◌, ℕ, zero, suc, List, [], ◌∷◌, Option, Some, None, Result, Ok, Err, Bool, true, false, ◌||◌, if◌then◌else◌, refl, sym, ap, ◌∙◌, subst, inl, inr, arith}
 use Rattle.std.specs.Prelude.{codes}
 use Rattle.std.specs.Str.{bytes_eq}
 use Rattle.cake_base.specs.declared.places.Place.{Place}
-use Rattle.c_model.specs.declared.numbers.Basic.TheVariants.{Int}
-use Rattle.c_model.specs.declared.numbers.BinOp.{BinOp}
-use Rattle.c_model.specs.declared.numbers.BinOp.TheVariants.{Mul, Div, Rem, Add, Sub, ShiftLeft, ShiftRight, Less, Greater, LessEqual, GreaterEqual, Equal, NotEqual, BitAnd, BitXor, BitOr}
-use Rattle.c_model.specs.declared.marks.Mark.{Mark}
-use Rattle.c_model.specs.declared.outcomes.Cause.{Cause}
-use Rattle.c_model.specs.declared.outcomes.Cause.TheVariants.{NoValue, Kind}
-use Rattle.c_model.specs.Types.{CType, form_of_type}
-use Rattle.c_model.specs.Types89.{Type89, int_type as int89}
-use Rattle.c_model.specs.CoreTypes.{int_type as int23, type_of, binary_type as binary23}
-use Rattle.c_model.specs.Memory.{Value, Missing, Single, Structure, Scalar}
-use Rattle.c_model.specs.Applied.{applied}
-use Rattle.c_model.specs.Run.{Undefined, State, Step, Goes, Ends, follow, given, Act, ◌▷◌, just, used, scalar_of, start_with, run_of, answer_of, Gives}
-use Rattle.c_model.specs.Core as source
-use Rattle.c_model.specs.SourceFrame as source_frame
-use Rattle.c_model.specs.SourceMarks.{at_mark, expr_mark}
-use Rattle.c_model.specs.SourceOperations as source_operations
-use Rattle.c_model.specs.SourceValues as source_values
-use Rattle.c_model.specs.SourceStatements as source_statements
-use Rattle.c_model.specs.SourceRun.{run23}
-use Rattle.c_model.specs.SourceRun as source_run
-use Rattle.c_model.specs.Program89 as target
-use Rattle.c_model.specs.Names89.{IsName}
-use Rattle.c_model.specs.TargetTypes.{Names, value_type, decayed, binary_type as binary89}
-use Rattle.c_model.specs.TargetFrame as target_frame
-use Rattle.c_model.specs.TargetOperations as target_operations
-use Rattle.c_model.specs.TargetValues as target_values
-use Rattle.c_model.specs.TargetStatements as target_statements
-use Rattle.c_model.specs.TargetRun.{run89}
-use Rattle.c_model.specs.TargetRun as target_run
-use Rattle.c_model.specs.TypedParts89.{takes}
-use Rattle.c_model.specs.TypedStat89.{has_type}
-use Rattle.c_model.specs.Typing89.{Typed}
-use Rattle.c_model.specs.Written89.{WrittenExpr}
-use Rattle.c_model.specs.FirstUnit.{mark_at, main_type, returning}
-use Rattle.c_model.specs.Spelling89.{canonical}
-use Rattle.c_model.specs.Reading89.{Reads89}
-use Rattle.c_model.specs.Flat89.{holds_call}
+use Rattle.model_types.specs.declared.numbers.Basic.TheVariants.{Int}
+use Rattle.model_types.specs.declared.numbers.BinOp.{BinOp}
+use Rattle.model_types.specs.declared.numbers.BinOp.TheVariants.{Mul, Div, Rem, Add, Sub, ShiftLeft, ShiftRight, Less, Greater, LessEqual, GreaterEqual, Equal, NotEqual, BitAnd, BitXor, BitOr}
+use Rattle.model_types.specs.declared.marks.Mark.{Mark}
+use Rattle.model_types.specs.declared.outcomes.Cause.{Cause}
+use Rattle.model_types.specs.declared.outcomes.Cause.TheVariants.{NoValue, Kind}
+use Rattle.model_types.specs.Types.{CType, form_of_type}
+use Rattle.model_core.specs.Types89.{Type89, int_type as int89}
+use Rattle.model_core.specs.CoreTypes.{int_type as int23, type_of, binary_type as binary23}
+use Rattle.model_runs.specs.Memory.{Value, Missing, Single, Structure, Scalar}
+use Rattle.model_runs.specs.Applied.{applied}
+use Rattle.model_runs.specs.Run.{Undefined, State, Step, Goes, Ends, follow, given, Act, ◌▷◌, just, used, scalar_of, start_with, run_of, answer_of, Gives}
+use Rattle.model_core.specs.Core as source
+use Rattle.model_runs.specs.SourceFrame as source_frame
+use Rattle.model_core.specs.SourceMarks.{at_mark, expr_mark}
+use Rattle.model_runs.specs.Operands as operands
+use Rattle.model_runs.specs.SourceOperations as source_operations
+use Rattle.model_runs.specs.SourceValues as source_values
+use Rattle.model_runs.specs.SourceStatements as source_statements
+use Rattle.model_runs.specs.SourceRun.{run23}
+use Rattle.model_runs.specs.SourceRun as source_run
+use Rattle.model_core.specs.Program89 as target
+use Rattle.model_c89.specs.Names89.{IsName}
+use Rattle.model_c89.specs.TargetTypes.{Names, value_type, decayed, binary_type as binary89}
+use Rattle.model_c89.specs.TargetFrame as target_frame
+use Rattle.model_c89.specs.TargetOperations as target_operations
+use Rattle.model_c89.specs.TargetValues as target_values
+use Rattle.model_c89.specs.TargetStatements as target_statements
+use Rattle.model_c89.specs.TargetRun.{run89}
+use Rattle.model_c89.specs.TargetRun as target_run
+use Rattle.model_c89.specs.TypedParts89.{takes}
+use Rattle.model_c89.specs.TypedStat89.{has_type}
+use Rattle.model_c89.specs.Typing89.{Typed}
+use Rattle.model_c89.specs.Written89.{WrittenExpr}
+use Rattle.c_model.specs.FirstUnit.{UnitPlaces, mark_at, main_type, returning}
+use Rattle.model_c89.specs.Spelling89.{canonical}
+use Rattle.model_c89.specs.Reading89.{Reads89}
+use Rattle.model_c89.specs.Flat89.{holds_call}
 use Rattle.c_model.specs.WrittenType.{StructNames, written_type}
 use Rattle.c_model.specs.Translation.{Exports, IsUndefined, IsEntryForm, HasBody, Same}
-use Rattle.c_model.proofs.Spelled.{program_reads}
+use Rattle.model_c89.proofs.Spelled.{program_reads}
 use Rattle.cake_cli.specs.declared.expression.Expr.{Expr}
 use Rattle.cake_cli.specs.declared.expression.Expr.TheVariants.{Constant, Binary'}
 use Rattle.cake_cli.specs.Views.{expr_of, target_of}
@@ -170,7 +171,7 @@ is_written_int names (Binary' op p a q b place) =
     ∙ ap decayed (written_is_int op)
 
 -- an operation of the unit, and that of the text
-applied_same : (f : source_frame.Frame) (g : target_frame.Frame) (op : BinOp) (mark : Mark) (t u : CType) (t' u' : Type89) → t ≡ int23 → u ≡ int23 → t' ≡ int89 → u' ≡ int89 → (x y : Scalar) (s : State) → Follows ((source_operations.operated_on f op mark t u x y ▷ source_operations.single) s) ((target_operations.operated_on g op t' u' x y ▷ target_operations.single) s)
+applied_same : (f : source_frame.Frame) (g : target_frame.Frame) (op : BinOp) (mark : Mark) (t u : CType) (t' u' : Type89) → t ≡ int23 → u ≡ int23 → t' ≡ int89 → u' ≡ int89 → (x y : Scalar) (s : State) → Follows ((source_operations.operated_on f op mark t u x y ▷ operands.single) s) ((target_operations.operated_on g op t' u' x y ▷ operands.single) s)
 applied_same f g op mark t u t' u' is_t is_u is_t' is_u' x y s =
     rw (is_t, is_u, is_t', is_u', done_in_int op x y s)
     (follow_same (given (at_mark mark) (applied op Int 1 x y) s) (given None (applied op Int 1 x y) s) _ _ (given_same (at_mark mark) (applied op Int 1 x y) s) (λ z s1. inr refl))
@@ -211,9 +212,9 @@ run_same l r (inr e) = inr (ap run_of e)
 no_names : StructNames
 no_names id = []
 
-module _ (e : Expr) (place : Place) where
+module _ (e : Expr) (places : UnitPlaces) where
   abbrev unit : source.Core
-  unit = returning (expr_of e) place
+  unit = returning (expr_of e) places
 
   abbrev main23 : source.Function
   main23 = record {
@@ -222,18 +223,18 @@ module _ (e : Expr) (place : Place) where
     type = main_type;
     is_external = true;
     parameters = [];
-    body = source.a_stat (source.Block [] (source.more_stats (source.Return (source.an_expr (expr_of e)) place) source.no_stats) (record { first = place; last = place }));
-    place = place;
-    joint_place = place;
+    body = source.a_stat (source.Block [] (source.more_stats (source.Return (source.an_expr (expr_of e)) places.return_) source.no_stats) (record { first = places.open_brace; last = places.close_brace }));
+    place = places.name;
+    joint_place = places.name;
   }
 
   abbrev main89 : target.Function
   main89 = main_of (target_of e)
 
-  entered_same : (f : source_frame.Frame) (g : target_frame.Frame) (bound : ℕ) → g.result ≡ int89 → (s : State) → Follows (follow (follow (source_statements.perform_all f bound (source.more_stats (source.Return (source.an_expr (expr_of e)) place) source.no_stats) s) (λ flow. just flow)) (λ flow. just (answer_of flow))) (follow (follow (target_statements.perform_all g bound (target.more_stats (target.Return (target_of e)) target.no_stats) s) (λ flow. just flow)) (λ flow. just (answer_of flow)))
+  entered_same : (f : source_frame.Frame) (g : target_frame.Frame) (bound : ℕ) → g.result ≡ int89 → (s : State) → Follows (follow (follow (source_statements.perform_all f bound (source.more_stats (source.Return (source.an_expr (expr_of e)) places.return_) source.no_stats) s) (λ flow. just flow)) (λ flow. just (answer_of flow))) (follow (follow (target_statements.perform_all g bound (target.more_stats (target.Return (target_of e)) target.no_stats) s) (λ flow. just flow)) (λ flow. just (answer_of flow)))
   entered_same f g bound result s =
       follow_same _ _ _ _
-      (follow_same (source_statements.perform_all f bound (source.more_stats (source.Return (source.an_expr (expr_of e)) place) source.no_stats) s) (target_statements.perform_all g bound (target.more_stats (target.Return (target_of e)) target.no_stats) s) _ _ (all_same f g bound e place result s) (λ flow s1. inr refl))
+      (follow_same (source_statements.perform_all f bound (source.more_stats (source.Return (source.an_expr (expr_of e)) places.return_) source.no_stats) s) (target_statements.perform_all g bound (target.more_stats (target.Return (target_of e)) target.no_stats) s) _ _ (all_same f g bound e places.return_ result s) (λ flow s1. inr refl))
       (λ flow s1. inr refl)
 
   call_same : (known : Bool) (n : ℕ) (s : State) → Follows (source_run.call_entry unit n (if known then Some main23 else None) [] s) (target_run.call_entry (program_of (target_of e)) n (if known then Some main89 else None) [] s)
@@ -308,6 +309,9 @@ module _ (e : Expr) (place : Place) where
       λ type d. (let f = written_found (bytes_eq (codes "main") name) d.function type d.named d.typed in (f.0.type, record { function = f.0; named = f.1; external = f.2; body = f.3; typed = refl }, f.4)),
     );
     objects = λ name. (λ type d. absurd (let h : None ≡ Some d.object = d.named in cc), λ type d. absurd (let h : None ≡ Some d.object = d.named in cc));
+    tags = λ id other below too same. absurd (let h : id.0 < 0 = below in omega (arith, h));
+    members = λ type id exported reaches. refl;
+    values = λ name type held. absurd (let h : None ≡ Some held.object = held.named in cc);
   }
 
   pub delivers : (text : List ℕ) → text ≡ canonical (program_of (target_of e)) → Delivers unit text

@@ -4,16 +4,16 @@ use Rattle.std.specs.Prelude.{codes}
 use Rattle.std.specs.Str.{bytes_eq}
 use Rattle.std.proofs.lemmas.Bool.Decides.{nat_tests}
 use Rattle.std.proofs.lemmas.Slice.Eq.{bytes_eq-Decides}
-use Rattle.c_model.specs.declared.numbers.Basic.{Basic}
-use Rattle.c_model.specs.declared.numbers.Basic.TheVariants as basic
-use Rattle.c_model.specs.declared.numbers.BinOp.{BinOp}
-use Rattle.c_model.specs.declared.numbers.BinOp.TheVariants.{Mul, Div, Rem, Add, Sub, ShiftLeft, ShiftRight, Less, Greater, LessEqual, GreaterEqual, Equal, NotEqual, BitAnd, BitXor, BitOr}
-use Rattle.c_model.specs.declared.numbers.Const.{Const}
-use Rattle.c_model.specs.declared.tokens.CKind.{CKind}
-use Rattle.c_model.specs.declared.tokens.CKind.TheVariants.{Word, Name, Integer, Text, Punct}
-use Rattle.c_model.specs.declared.tokens.CTok.{CTok}
-use Rattle.c_model.specs.declared.tokens.TokenRule.{TokenRule}
-use Rattle.c_model.specs.Vocabulary.{word_number, punctuator_number}
+use Rattle.model_types.specs.declared.numbers.Basic.{Basic}
+use Rattle.model_types.specs.declared.numbers.Basic.TheVariants as basic
+use Rattle.model_types.specs.declared.numbers.BinOp.{BinOp}
+use Rattle.model_types.specs.declared.numbers.BinOp.TheVariants.{Mul, Div, Rem, Add, Sub, ShiftLeft, ShiftRight, Less, Greater, LessEqual, GreaterEqual, Equal, NotEqual, BitAnd, BitXor, BitOr}
+use Rattle.model_types.specs.declared.numbers.Const.{Const}
+use Rattle.model_tokens.specs.declared.tokens.CKind.{CKind}
+use Rattle.model_tokens.specs.declared.tokens.CKind.TheVariants.{Word, Name, Integer, Text, Punct}
+use Rattle.model_tokens.specs.declared.tokens.CTok.{CTok}
+use Rattle.model_tokens.specs.declared.tokens.TokenRule.{TokenRule}
+use Rattle.model_types.specs.Vocabulary.{word_number, punctuator_number}
 use Rattle.c_model.specs.FirstUnit.{spelled, IsSpelled, IsConstant, head_words}
 use Rattle.cake_cli.specs.Sorts.{Sort, IntWord, MainName, OpenParenthesis, VoidWord, CloseParenthesis, OpenBrace, ReturnWord, Constant, Sign, Semicolon, CloseBrace, Other, int_sort, constant_sort, sign_sort, sort_of}
 use Rattle.cake_cli.specs.Reader.{front_rank}

@@ -4,15 +4,15 @@ use Rattle.std.specs.Prelude.{codes}
 use Rattle.std.proofs.lemmas.Bool.Decides.{nat_tests}
 use Rattle.std.proofs.lemmas.List.{append-nil}
 use Rattle.cake_base.specs.declared.places.Place.{Place}
-use Rattle.c_model.specs.declared.numbers.Basic.TheVariants.{Int}
-use Rattle.c_model.specs.declared.numbers.BinOp.{BinOp}
-use Rattle.c_model.specs.declared.numbers.BinOp.TheVariants.{Mul, Div, Rem, Add, Sub, ShiftLeft, ShiftRight, Less, Greater, LessEqual, GreaterEqual, Equal, NotEqual, BitAnd, BitXor, BitOr}
-use Rattle.c_model.specs.declared.tokens.CKind.{CKind}
-use Rattle.c_model.specs.declared.tokens.CKind.TheVariants.{Word, Name, Integer, Punct}
-use Rattle.c_model.specs.declared.tokens.CTok.{CTok}
-use Rattle.c_model.specs.declared.tokens.TokenRule.{TokenRule}
-use Rattle.c_model.specs.Core.{Expr}
-use Rattle.c_model.specs.FirstUnit.{spelled, IsSpelled, IsSum, IsProduct, IsPrimary, one_product, added, subtracted, one_primary, multiplied, constant, parenthesised, head_words, returning, IsUnit, CanGoOn, int_constant, int_operation}
+use Rattle.model_types.specs.declared.numbers.Basic.TheVariants.{Int}
+use Rattle.model_types.specs.declared.numbers.BinOp.{BinOp}
+use Rattle.model_types.specs.declared.numbers.BinOp.TheVariants.{Mul, Div, Rem, Add, Sub, ShiftLeft, ShiftRight, Less, Greater, LessEqual, GreaterEqual, Equal, NotEqual, BitAnd, BitXor, BitOr}
+use Rattle.model_tokens.specs.declared.tokens.CKind.{CKind}
+use Rattle.model_tokens.specs.declared.tokens.CKind.TheVariants.{Word, Name, Integer, Punct}
+use Rattle.model_tokens.specs.declared.tokens.CTok.{CTok}
+use Rattle.model_tokens.specs.declared.tokens.TokenRule.{TokenRule}
+use Rattle.model_core.specs.Core.{Expr}
+use Rattle.c_model.specs.FirstUnit.{UnitPlaces, places_of, spelled, IsSpelled, IsSum, IsProduct, IsPrimary, one_product, added, subtracted, one_primary, multiplied, constant, parenthesised, head_words, returning, IsUnit, CanGoOn, int_constant, int_operation}
 use Rattle.cake_cli.specs.Sorts.{Sort, IntWord, MainName, OpenParenthesis, VoidWord, CloseParenthesis, OpenBrace, ReturnWord, Constant, Sign, Semicolon, CloseBrace, Other, sort_of}
 use Rattle.cake_cli.specs.Reader.{Stage, Front, Operand, Operator, Tail, Whole, Waiting, Open, nothing_open, joined, closed, front_rank, past_word, past_sum, past_product, past_sign, past_close, past_end, past_begin, past_operand, past_tail, read_token}
 use Rattle.cake_cli.proofs.SortLaws.{front_kinds, head_kinds, front_word, seventh_is_return, SignIs, is_open, is_close, is_brace, is_semicolon, is_constant, is_sign}
@@ -76,7 +76,7 @@ record TailFront (value : Expr) (ts : List CTok) : Type 0 where
   parts : ts ≡ first ++ (sum ++ semicolon ∷ [])
 
 abbrev WholeFront : Expr → List CTok → Type 0
-WholeFront value ts = (place : Place) × IsUnit ts (returning value place)
+WholeFront value ts = (places : UnitPlaces) × IsUnit ts (returning value places)
 
 -- what a stage says of the tokens that were read
 abbrev Holds : Stage → List CTok → Type 0
@@ -266,7 +266,7 @@ constant_keeps ts t number here outer holds is = record {
 
 brace_keeps : (ts : List CTok) (t : CTok) (value : Expr) → Holds (Tail value) ts → IsSpelled (codes "}") t → Holds (Whole value) (ts ++ t ∷ [])
 brace_keeps ts t value holds is = (
-  holds.words.return_.place,
+  places_of holds.words.head holds.words.return_ t,
   record {
     head = holds.words.head;
     return_ = holds.words.return_;
@@ -364,7 +364,7 @@ go_keeps (t ∷ ts) before stage end holds e =
     subst (Holds end) (append_assoc before (t ∷ []) ts) (go_keeps ts (before ++ t ∷ []) step.0 end (step_keeps stage step.0 before t holds step.1) step.2)
 
 -- what the reader reads whole is a unit
-pub whole_is_unit : (ts : List CTok) (value : Expr) → go (Some (Front 0)) ts ≡ Some (Whole value) → (place : Place) × IsUnit ts (returning value place)
+pub whole_is_unit : (ts : List CTok) (value : Expr) → go (Some (Front 0)) ts ≡ Some (Whole value) → (places : UnitPlaces) × IsUnit ts (returning value places)
 whole_is_unit ts value e = go_keeps ts [] (Front 0) (Whole value) (refl, omega arith) e
 
 -- some tokens complete what a stage has read

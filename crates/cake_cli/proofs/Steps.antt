@@ -2,9 +2,9 @@
 use Rattle.std.proofs.Common.{◌≡◌, ℕ, ◌==◌, List, [], ◌∷◌, ◌++◌, Option, Some, None, true, if◌then◌else◌, pos, refl, ap, ◌∙◌, arith}
 use Rattle.std.specs.Prelude.{codes}
 use Rattle.std.proofs.lemmas.Bool.Decides.{nat_tests}
-use Rattle.c_model.specs.declared.numbers.BinOp.{BinOp}
-use Rattle.c_model.specs.declared.tokens.CTok.{CTok}
-use Rattle.c_model.specs.Core.{Expr}
+use Rattle.model_types.specs.declared.numbers.BinOp.{BinOp}
+use Rattle.model_tokens.specs.declared.tokens.CTok.{CTok}
+use Rattle.model_core.specs.Core.{Expr}
 use Rattle.c_model.specs.FirstUnit.{IsSpelled, IsConstant, int_constant}
 use Rattle.cake_cli.specs.Sorts.{Sign, sort_of}
 use Rattle.cake_cli.specs.Reader.{Stage, Front, Operand, Operator, Tail, Whole, Open, nothing_open, closed, front_rank, past_word, past_begin, past_operand, past_tail, past_sign, read_token}

@@ -1,21 +1,23 @@
 -- Each unit has one verdict.
-use Rattle.std.proofs.Common.{◌≡◌, ◌⊎◌, ℕ, ◌+◌, ◌-◌, ◌<◌, ◌≤◌, List, ◌++◌, take, drop, length, sym, ap, ◌∙◌, subst, inl, inr, append_assoc, arith, Result, Ok, Err}
+use Rattle.std.proofs.Common.{◌≡◌, ◌⊎◌, ℕ, ◌+◌, ◌-◌, ◌<◌, ◌≤◌, List, [], ◌∷◌, ◌++◌, take, drop, length, sym, ap, ◌∙◌, subst, inl, inr, append_assoc, arith, Result, Ok, Err}
 use Rattle.std.proofs.lemmas.Bool.Decides.{nat_tests}
 use Rattle.std.proofs.lemmas.List.{take-append-drop}
 use Rattle.std.proofs.Math.Seq.{take-add}
-use Rattle.c_model.specs.Core.{Core}
+use Rattle.model_core.specs.Core.{Core}
 use Rattle.cake_base.specs.declared.places.Place.{Place}
 use Rattle.cake_base.specs.declared.rules.Family.TheVariants.{S}
 use Rattle.cake_base.specs.declared.rules.Fault.{Fault}
-use Rattle.c_model.specs.declared.tokens.CTok.{CTok}
+use Rattle.model_tokens.specs.declared.tokens.CTok.{CTok}
 use Rattle.c_model.specs.FirstUnit.{IsUnit, CanGoOn, StopsFor, no_unit_goes_on, too_few, StopsAt, token_place}
-use Rattle.c_model.specs.CTokens.{c_tokens_of}
-use Rattle.c_model.specs.PreprocessedUnit.{Prepared}
-use Rattle.c_model.specs.Processes.{Stop, broken, passed, unread, Refusal}
-use Rattle.c_model.specs.TerminalsOf.{terminals_of}
-use Rattle.c_model.specs.Verdict.{Verdict, Stopped, NotBuilt, IsCore, HasTree, IsSyntaxStop, IsVerdictOn, IsVerdictOf, IsVerdict}
+use Rattle.model_tokens.specs.CTokens.{c_tokens_of}
+use Rattle.model_preprocessing.specs.PreprocessedUnit.{Prepared}
+use Rattle.model_preprocessing.specs.Processes.{Stop, broken, passed, unread, Refusal}
+use Rattle.model_grammar.specs.SyntaxForms.{External}
+use Rattle.model_grammar.specs.TerminalsOf.{terminals_of}
+use Rattle.cake_cli.specs.Verdict.{Verdict, Stopped, NotBuilt, IsCore, IsForm, IsSyntaxStop, IsVerdictOn, IsVerdictOf, IsVerdict}
 use Rattle.cake_cli.proofs.Complete.{one_unit}
-use Rattle.c_model.proofs.OneAnswer.{exclude}
+use Rattle.cake_cli.proofs.UnitForms.{one_form}
+use Rattle.grammar_laws.proofs.answers.AtMostOneAnswer.{exclude}
 
 -- a front of what can go on can go on
 shorter : (ts : List CTok) (m n : ℕ) → m ≤ n → CanGoOn (take n ts) → CanGoOn (take m ts)
@@ -63,23 +65,24 @@ one_stop tokens end (broken a) (passed b) p q = let law = exclude (terminals_of 
 one_stop tokens end (passed a) (broken b) p q = let law = exclude (terminals_of tokens) in absurd (law.fault_or_depth q.0 p.0 q.1 p.1)
 one_stop tokens end (passed a) (passed b) p q = let law = exclude (terminals_of tokens) in ap passed (p.2 ∙ ap (λ k. record { place = token_place tokens end k; limit = record { number = 6 } }) (law.one_depth p.0 q.0 p.1 q.1) ∙ sym q.2)
 
--- and nowhere in what has a tree
-tree_never_stops : (tokens : List CTok) (end : Place) (stop : Stop) → HasTree tokens → IsSyntaxStop tokens end stop → ⊥
-tree_never_stops tokens end (broken fault) tree p = let law = exclude (terminals_of tokens) in law.unit_or_fault tree.0 p.0 tree.1 p.1
-tree_never_stops tokens end (passed hit) tree p = let law = exclude (terminals_of tokens) in law.unit_or_depth tree.0 p.0 tree.1 p.1
-tree_never_stops tokens end (unread file cause) tree p = p
+-- and nowhere in what has a form
+form_never_stops : (tokens : List CTok) (unit : List External) (end : Place) (stop : Stop) → IsForm tokens unit → IsSyntaxStop tokens end stop → ⊥
+form_never_stops tokens unit end (broken fault) form p = let law = exclude (terminals_of tokens) in law.unit_or_fault (form.tree ∷ []) p.0 form.derived p.1
+form_never_stops tokens unit end (passed hit) form p = let law = exclude (terminals_of tokens) in law.unit_or_depth (form.tree ∷ []) p.0 form.derived p.1
+form_never_stops tokens unit end (unread file cause) form p = p
 
 -- tokens have one verdict
 tokens_verdict : (tokens : List CTok) (end : Place) (v w : Verdict) → IsVerdictOn tokens end v → IsVerdictOn tokens end w → v ≡ w
 tokens_verdict tokens end (Stopped stop) (Stopped other) p q = ap Stopped (one_stop tokens end stop other p q)
-tokens_verdict tokens end (Stopped stop) (NotBuilt place) p q = absurd (tree_never_stops tokens end stop q.0 p)
-tokens_verdict tokens end (Stopped stop) (IsCore core) p q = absurd (tree_never_stops tokens end stop q.0 p)
-tokens_verdict tokens end (NotBuilt place) (Stopped stop) p q = absurd (tree_never_stops tokens end stop p.0 q)
-tokens_verdict tokens end (IsCore core) (Stopped stop) p q = absurd (tree_never_stops tokens end stop p.0 q)
-tokens_verdict tokens end (NotBuilt place) (NotBuilt other) p q = ap NotBuilt (p.3 ∙ ap (token_place tokens end) (one_rank tokens p.1 q.1 p.2 q.2) ∙ sym q.3)
-tokens_verdict tokens end (NotBuilt place) (IsCore core) p q = absurd (unit_never_stops tokens core p.1 q.1 p.2.cause)
-tokens_verdict tokens end (IsCore core) (NotBuilt place) p q = absurd (unit_never_stops tokens core q.1 p.1 q.2.cause)
-tokens_verdict tokens end (IsCore core) (IsCore other) p q = ap IsCore (one_unit tokens core other p.1 q.1)
+tokens_verdict tokens end (Stopped stop) (NotBuilt unit place) p q = absurd (form_never_stops tokens unit end stop q.0 p)
+tokens_verdict tokens end (Stopped stop) (IsCore unit core) p q = absurd (form_never_stops tokens unit end stop q.0 p)
+tokens_verdict tokens end (NotBuilt unit place) (Stopped stop) p q = absurd (form_never_stops tokens unit end stop p.0 q)
+tokens_verdict tokens end (IsCore unit core) (Stopped stop) p q = absurd (form_never_stops tokens unit end stop p.0 q)
+tokens_verdict tokens end (NotBuilt unit place) (NotBuilt form other) p q =
+    ap (λ u. NotBuilt u place) (one_form tokens unit form p.0 q.0) ∙ ap (NotBuilt form) (p.3 ∙ ap (token_place tokens end) (one_rank tokens p.1 q.1 p.2 q.2) ∙ sym q.3)
+tokens_verdict tokens end (NotBuilt unit place) (IsCore form core) p q = absurd (unit_never_stops tokens core p.1 q.1 p.2.cause)
+tokens_verdict tokens end (IsCore unit core) (NotBuilt form place) p q = absurd (unit_never_stops tokens core q.1 p.1 q.2.cause)
+tokens_verdict tokens end (IsCore unit core) (IsCore form other) p q = ap (λ u. IsCore u core) (one_form tokens unit form p.0 q.0) ∙ ap (IsCore form) (one_unit tokens core other p.1 q.1)
 
 converted_verdict : (converted : Result (List CTok) Fault) (end : Place) (v w : Verdict) → IsVerdictOf converted end v → IsVerdictOf converted end w → v ≡ w
 converted_verdict (Ok tokens) end v w p q = tokens_verdict tokens end v w p q

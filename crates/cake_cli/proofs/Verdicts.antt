@@ -2,7 +2,7 @@
 use Rattle.std.proofs.Common.{◌≡◌, ℕ, suc, ◌+◌, ◌<◌, List, [], ◌∷◌, ◌++◌, take, length, Option, Some, None, refl, sym, ap, ◌∙◌, subst, append_assoc, arith, length-append}
 use Rattle.std.proofs.lemmas.List.{append-nil}
 use Rattle.cake_base.specs.declared.places.Place.{Place}
-use Rattle.c_model.specs.declared.tokens.CTok.{CTok}
+use Rattle.model_tokens.specs.declared.tokens.CTok.{CTok}
 use Rattle.c_model.specs.FirstUnit.{CanGoOn, StopsFor, no_unit_goes_on, too_few, token_place}
 use Rattle.cake_cli.specs.Reader.{Stage, Front, Operand, Operator, Tail, Whole, Reading, Stops, read_token, at_end, on_stage, read_from, read_unit}
 use Rattle.cake_cli.specs.ReadsAs.{ReadsAs}

@@ -1,8 +1,8 @@
 -- The text of tokens behind others.
 use Rattle.std.specs.Prelude.{ℕ, List, ◌++◌, Option, Some, None}
 use Rattle.cake_base.specs.declared.places.Place.{Place}
-use Rattle.c_model.specs.PpTokens.{PpToken}
-use Rattle.c_model.specs.ExpandedText.{parting, expanded_text, behind_token}
+use Rattle.model_tokens.specs.PpTokens.{PpToken}
+use Rattle.cake_cli.specs.ExpandedText.{parting, expanded_text, behind_token}
 
 -- a token behind that of a place, or the first
 abbrev pub token_behind : Option Place → PpToken → List ℕ

@@ -1,3 +1,9 @@
+pub mod Words
+pub mod Verdict
+pub mod ExpandedText
+pub mod RuleTexts
+pub mod ReportLines
+pub mod Answer
 pub mod Codes
 pub mod WordsRead
 pub mod Behind

@@ -1,7 +1,7 @@
 -- The C89 program of a unit.
 use Rattle.std.specs.Prelude.{false, [], ◌∷◌, codes, None}
-use Rattle.c_model.specs.Types89.{Function as FunctionType, no_types, int_type}
-use Rattle.c_model.specs.Program89.{Expr, Return, more_stats, no_stats, Plainly, Function, Program}
+use Rattle.model_core.specs.Types89.{Function as FunctionType, no_types, int_type}
+use Rattle.model_core.specs.Program89.{Expr, Return, more_stats, no_stats, Plainly, Outer, Function, Program}
 
 -- `main`, which returns this value
 abbrev pub main_of : Expr → Function
@@ -15,10 +15,14 @@ main_of value = record {
   body = more_stats (Return value) no_stats;
 }
 
+-- the line that declares it
+abbrev pub main_declared : Outer
+main_declared = record { storage = Plainly; type = FunctionType int_type no_types false; name = codes "main"; init = None }
+
 -- the program of it
 abbrev pub program_of : Expr → Program
 program_of value = record {
   structures = [];
-  outers = record { storage = Plainly; type = FunctionType int_type no_types false; name = codes "main"; init = None } ∷ [];
+  outers = main_declared ∷ [];
   functions = main_of value ∷ [];
 }

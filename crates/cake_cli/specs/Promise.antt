@@ -2,17 +2,17 @@
 use Rattle.std.specs.Prelude.{◌≡◌, ◌⊎◌, ℕ, List, [], length, Option, Some, None, Result, Ok, Err}
 use Rattle.cake_base.specs.Counts.{Rose}
 use Rattle.cake_base.specs.Outside.{Held, FilesView, Appends, AppendsPrefix}
-use Rattle.c_model.specs.Core.{Core}
-use Rattle.c_model.specs.Program89.{Program}
-use Rattle.c_model.specs.Reading89.{Reads89}
-use Rattle.c_model.specs.Flat89.{Flat}
+use Rattle.model_core.specs.Core.{Core}
+use Rattle.model_core.specs.Program89.{Program}
+use Rattle.model_c89.specs.Reading89.{Reads89}
+use Rattle.model_c89.specs.Flat89.{Flat}
 use Rattle.c_model.specs.Translation.{Exports, Same}
-use Rattle.c_model.specs.ExpandedText.{expanded_text}
-use Rattle.c_model.specs.Processes.{Log}
-use Rattle.c_model.specs.ReportLines.{name_in}
-use Rattle.c_model.specs.Words.{Plan}
-use Rattle.c_model.specs.Answer.{Delivery, AText, Tokens, NoText, Answer, Usage, Unreadable, Refused, Unbuilt, Limited, Written, err_text}
-use Rattle.c_model.specs.PreprocessedUnit.{asked}
+use Rattle.cake_cli.specs.ExpandedText.{expanded_text}
+use Rattle.model_preprocessing.specs.Processes.{Log}
+use Rattle.cake_cli.specs.ReportLines.{name_in}
+use Rattle.cake_cli.specs.Words.{Plan}
+use Rattle.cake_cli.specs.Answer.{Delivery, AText, Tokens, NoText, Answer, Usage, Unreadable, Refused, Unbuilt, Limited, Written, err_text}
+use Rattle.model_preprocessing.specs.PreprocessedUnit.{asked}
 use Rattle.pp_directives.specs.Promise.{Kept, RoseBy, FailsAt}
 use Rattle.cake_cli.specs.Call.{Call, IsDue}
 use Rattle.cake_cli.specs.declared.status.Status.{Status}
@@ -152,6 +152,16 @@ pub record NoFault (c : Call) : Type 0 where
   pub read : ReadFailed c → ⊥
   pub out : OutFailed c → ⊥
   pub err : ErrFailed c → ⊥
+
+-- what a call owes to the answer that is due: by its status, and by what out and err got
+pub record Meets (result : Status) (plan : Result Plan ℕ) (due : Answer) (c : Call) : Type 0 where
+  pub written : result ≡ status.Written → PutsText due c
+  pub err : ErrGets result plan due c
+  pub refused : Exactly (result ≡ status.Refused) (IsRefused due) (IsExcused result plan c)
+  pub read_fault : (result ≡ status.ReadFault → IsUnreadable due ⊎ IsFailedRead plan c) × (IsUnreadable due → (result ≡ status.ReadFault) ⊎ IsExcused result plan c)
+  pub write_fault : result ≡ status.WriteFault → PutFailed due c
+  pub limit : Exactly (result ≡ status.Limit) (IsLimited due) (IsExcused result plan c)
+  pub complete : IsWritten due → NoFault c → (result ≡ status.Written) ⊎ (result ≡ status.NoMemory)
 
 -- the files hold what they held, where the words have a reading, and else weren't asked
 abbrev pub Reads : Result Plan ℕ → Call → Type 0

@@ -1,10 +1,10 @@
 -- The reader's steps over the tokens of a unit, from the left.
 use Rattle.std.specs.Prelude.{ℕ, ◌+◌, pos, ◌==◌, List, [], ◌∷◌, Option, Some, None, if◌then◌else◌}
 use Rattle.cake_base.specs.declared.places.Place.{Place}
-use Rattle.c_model.specs.declared.numbers.BinOp.{BinOp}
-use Rattle.c_model.specs.declared.numbers.BinOp.TheVariants.{Mul}
-use Rattle.c_model.specs.declared.tokens.CTok.{CTok}
-use Rattle.c_model.specs.Core.{Expr}
+use Rattle.model_types.specs.declared.numbers.BinOp.{BinOp}
+use Rattle.model_types.specs.declared.numbers.BinOp.TheVariants.{Mul}
+use Rattle.model_tokens.specs.declared.tokens.CTok.{CTok}
+use Rattle.model_core.specs.Core.{Expr}
 use Rattle.c_model.specs.FirstUnit.{int_constant, int_operation}
 use Rattle.cake_cli.specs.Sorts.{Sort, IntWord, MainName, OpenParenthesis, VoidWord, CloseParenthesis, OpenBrace, ReturnWord, Constant, Sign, Semicolon, CloseBrace, Other, sort_of}
 

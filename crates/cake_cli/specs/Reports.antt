@@ -1,14 +1,14 @@
 -- What is put, before it is put, and how a call comes out.
 use Rattle.std.specs.Prelude.{◌≡◌, ◌≢◌, ◌⊎◌, ℕ, List, [], Option, Some, None, Result, Ok}
-use Rattle.c_model.specs.declared.tokens.CTok.{CTok}
+use Rattle.model_tokens.specs.declared.tokens.CTok.{CTok}
 use Rattle.cake_base.specs.declared.places.Place.{Place}
-use Rattle.c_model.specs.declared.words.Mode.{Mode}
-use Rattle.c_model.specs.PreprocessedUnit.{Prepared}
-use Rattle.c_model.specs.Processes.{Stop, broken, passed, unread, Log, Refusal}
-use Rattle.c_model.specs.ReportLines.{name_in}
-use Rattle.c_model.specs.Verdict.{Verdict, IsVerdictOn, IsVerdict}
-use Rattle.c_model.specs.Words.{Plan}
-use Rattle.c_model.specs.Answer.{Answer, Usage, Unreadable, Refused, Unbuilt, Limited, Written, err_text, answer_to_stop, answer_to, IsAnswerIn}
+use Rattle.cake_cli.specs.declared.modes.Mode.{Mode}
+use Rattle.model_preprocessing.specs.PreprocessedUnit.{Prepared}
+use Rattle.model_preprocessing.specs.Processes.{Stop, broken, passed, unread, Log, Refusal}
+use Rattle.cake_cli.specs.ReportLines.{name_in}
+use Rattle.cake_cli.specs.Verdict.{Verdict, IsVerdictOn, IsVerdict}
+use Rattle.cake_cli.specs.Words.{Plan}
+use Rattle.cake_cli.specs.Answer.{Answer, Usage, Unreadable, Refused, Unbuilt, Limited, Written, err_text, answer_to_stop, answer_to, IsAnswerIn}
 use Rattle.pp_directives.specs.declared.errors.PrepError.{PrepError}
 use Rattle.pp_directives.specs.declared.errors.PrepError.TheVariants as prep_error
 use Rattle.pp_directives.specs.Promise.{FailsAt}

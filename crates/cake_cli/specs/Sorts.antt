@@ -1,12 +1,12 @@
 -- The sorts of tokens of C that the reader of a unit tells apart.
 use Rattle.std.specs.Prelude.{ℕ, ℤ, pos, negsuc, ◌==◌, if◌then◌else◌, List, codes}
 use Rattle.std.specs.Str.{bytes_eq}
-use Rattle.c_model.specs.declared.numbers.Basic.{Basic}
-use Rattle.c_model.specs.declared.numbers.Basic.TheVariants.{Bool as bool, Char, SignedChar, UnsignedChar, Short, UnsignedShort, Int, Unsigned, Long, UnsignedLong, LongLong, UnsignedLongLong}
-use Rattle.c_model.specs.declared.numbers.BinOp.{BinOp}
-use Rattle.c_model.specs.declared.numbers.BinOp.TheVariants.{Mul, Add, Sub}
-use Rattle.c_model.specs.declared.tokens.CKind.{CKind}
-use Rattle.c_model.specs.declared.tokens.CKind.TheVariants.{Word, Name, Integer, Text, Punct}
+use Rattle.model_types.specs.declared.numbers.Basic.{Basic}
+use Rattle.model_types.specs.declared.numbers.Basic.TheVariants.{Bool as bool, Char, SignedChar, UnsignedChar, Short, UnsignedShort, Int, Unsigned, Long, UnsignedLong, LongLong, UnsignedLongLong}
+use Rattle.model_types.specs.declared.numbers.BinOp.{BinOp}
+use Rattle.model_types.specs.declared.numbers.BinOp.TheVariants.{Mul, Add, Sub}
+use Rattle.model_tokens.specs.declared.tokens.CKind.{CKind}
+use Rattle.model_tokens.specs.declared.tokens.CKind.TheVariants.{Word, Name, Integer, Text, Punct}
 
 pub data Sort : Type 0 where
   IntWord : Sort

@@ -9,8 +9,8 @@ use Rattle.cake_cli.specs.declared.reader.Stage.TheVariants.{Front, Operand, Ope
 use Rattle.cake_cli.specs.declared.reader.Reading.{Reading}
 use Rattle.cake_cli.specs.declared.reader.Reading.TheVariants.{Stops, Reads}
 use Rattle.c_model.specs.FirstUnit.{int_constant, int_operation}
-use Rattle.c_model.specs.Core as source
-use Rattle.c_model.specs.Program89 as target
+use Rattle.model_core.specs.Core as source
+use Rattle.model_core.specs.Program89 as target
 use Rattle.cake_cli.specs.Reader as reader
 
 abbrev pub expr_of : Expr → source.Expr

@@ -8,9 +8,9 @@ use Rattle.cake_cli.specs.declared.meanings.Met.{Met}
 use Rattle.cake_cli.specs.declared.words.Plan.{Plan}
 use Rattle.cake_cli.specs.declared.words.WordsError.{WordsError}
 use Rattle.cake_cli.specs.declared.words.WordsError.TheVariants as words_error
-use Rattle.c_model.specs.PreprocessedUnit.{Options}
-use Rattle.c_model.specs.Words as words
-use Rattle.c_model.specs.Words.{is_good, meaning, behind}
+use Rattle.model_preprocessing.specs.PreprocessedUnit.{Options}
+use Rattle.cake_cli.specs.Words as words
+use Rattle.cake_cli.specs.Words.{is_good, meaning, behind}
 
 abbrev pub expected_of : Expected → words.Expected
 expected_of expected.AnyWord = words.AnyWord

@@ -1,11 +1,11 @@
 //! The command: its words, its files and its two sinks, to a status.
 ghost use Rattle.std.specs.Prelude.{◌≡◌, ◌≢◌, ◌⊎◌, ◌<◌, map, length, string_bytes, IfOk};
 ghost use Rattle.cake_base.specs.Outside.{FilesView, SinkView};
-ghost use Rattle.c_model.specs.PreprocessedUnit.{command_lines};
-ghost use Rattle.c_model.specs.Words.{plan};
+ghost use Rattle.model_preprocessing.specs.PreprocessedUnit.{command_lines};
+ghost use Rattle.cake_cli.specs.Words.{plan};
 ghost use Rattle.pp_directives.specs.Promise.{Kept};
 ghost use Rattle.cake_cli.specs.Call.{call_of};
-ghost use Rattle.cake_cli.specs.Promise.{ForDue, AreRead, AreBad, IsWritten, IsRefused, IsUnreadable, IsLimited, IsExcused, Exactly, PutsText, ErrGets, PutFailed, IsFailedRead, ReadFailed, NothingOnOut, NothingOnErr, NoFault, Reads, ReadsAll};
+ghost use Rattle.cake_cli.specs.Promise.{ForDue, AreRead, AreBad, IsWritten, IsRefused, IsUnreadable, IsLimited, IsExcused, Exactly, PutsText, ErrGets, PutFailed, IsFailedRead, ReadFailed, NothingOnOut, NothingOnErr, NoFault, Meets, Reads, ReadsAll};
 ghost use Rattle.cake_cli.specs.Reports.{ReportsPlan, Sent, Outcome};
 ghost use Rattle.cake_cli.specs.WordsRead.{plan_as};
 
@@ -131,6 +131,10 @@ pub fn cake<F: Files, O: Sink, E: Sink>(
     // What is due to be written is written, where no count of faults rose.
     ensures complete { let c = call_of (F.shows files.old) (F.shows files.new) (O.shows out.old) (O.shows out.new) (E.shows err.old) (E.shows err.new) in let p = plan (map string_bytes words.now) in
         ForDue p c (λ due. IsWritten due → NoFault c → (result ≡ Status.Written) ⊎ (result ≡ Status.NoMemory)) }
+
+    // All that is said of the answer that is due holds of one answer.
+    ensures due { let c = call_of (F.shows files.old) (F.shows files.new) (O.shows out.old) (O.shows out.new) (E.shows err.old) (E.shows err.new) in let p = plan (map string_bytes words.now) in
+        ForDue p c (λ due. Meets result p due c) }
 
     // Nothing else is put on out, and nothing else is read.
     ensures out { let c = call_of (F.shows files.old) (F.shows files.new) (O.shows out.old) (O.shows out.new) (E.shows err.old) (E.shows err.new) in

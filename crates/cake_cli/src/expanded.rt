@@ -1,6 +1,6 @@
 //! The text of preprocessed tokens.
 ghost use Rattle.std.specs.Prelude.{◌≡◌, ◌++◌, [], IfOk, OnOk};
-ghost use Rattle.c_model.specs.ExpandedText as spec;
+ghost use Rattle.cake_cli.specs.ExpandedText as spec;
 ghost use Rattle.cake_cli.specs.Behind.{token_behind, text_behind};
 
 use c_tokens::{PpList, PpTok};

@@ -4,8 +4,8 @@ ghost use Rattle.cake_cli.specs.Views.{expr_of, waiting_option, open_of};
 ghost use Rattle.cake_cli.specs.Reader.{joined, closed};
 
 use crate::constants::IntConstant;
-use c_model::numbers::BinOp;
 use cake_base::{NoMemory, Place};
+use model_types::numbers::BinOp;
 use std::alloc::Global;
 
 /// An expression of type int, with the places of its constants and operators.

@@ -1,17 +1,17 @@
 //! Laws of the command: each function does nothing, and its contract is the law.
 ghost use Rattle.std.specs.Prelude.{◌≡◌, ℕ, List, Result};
 ghost use Rattle.cake_base.specs.Outside.{Held};
-ghost use Rattle.c_model.specs.declared.tokens.CTok.{CTok};
-ghost use Rattle.c_model.specs.Core.{Core};
+ghost use Rattle.model_tokens.specs.declared.tokens.CTok.{CTok};
+ghost use Rattle.model_core.specs.Core.{Core};
 ghost use Rattle.c_model.specs.FirstUnit.{IsUnit};
-ghost use Rattle.c_model.specs.PreprocessedUnit.{Prepared};
-ghost use Rattle.c_model.specs.Processes.{Refusal};
-ghost use Rattle.c_model.specs.Verdict.{Verdict, IsVerdict};
-ghost use Rattle.c_model.specs.Words.{Plan};
-ghost use Rattle.c_model.specs.Answer.{Answer, IsAnswer, IsAnswerIn, err_text};
+ghost use Rattle.model_preprocessing.specs.PreprocessedUnit.{Prepared};
+ghost use Rattle.model_preprocessing.specs.Processes.{Refusal};
+ghost use Rattle.cake_cli.specs.Verdict.{Verdict, IsVerdict};
+ghost use Rattle.cake_cli.specs.Words.{Plan};
+ghost use Rattle.cake_cli.specs.Answer.{Answer, IsAnswer, IsAnswerIn, err_text};
 ghost use Rattle.cake_cli.specs.Reports.{status_of};
 
-use c_model::words::Mode;
+use crate::modes::Mode;
 
 /// Tokens are the unit of one core at most.
 pub fn one_unit()

@@ -6,19 +6,18 @@ mod constants;
 mod expanded;
 mod expression;
 pub mod laws;
+mod lowering;
 mod meanings;
+mod modes;
 mod reader;
 mod report;
 mod report_lines;
 mod sorts;
-mod spelling;
 mod status;
-#[cfg(test)]
-mod tests;
 mod texts;
 mod words;
 
-pub use c_model::words::Mode;
 pub use command::cake;
+pub use modes::Mode;
 pub use status::Status;
 pub use words::{Plan, WordsError, read_words};

@@ -1,10 +1,10 @@
 //! What a word of the command says.
 ghost use Rattle.std.specs.Prelude.{◌≡◌, ◌+◌, ◌∷◌, ◌<◌, ◌≤◌, ◌==◌, take, drop, length, codes, if◌then◌else◌, option_copied};
-ghost use Rattle.c_model.specs.CTokens as idents;
-ghost use Rattle.c_model.specs.Words as words;
+ghost use Rattle.cake_cli.specs.Words as words;
 ghost use Rattle.cake_cli.specs.WordsRead.{behind_byte, value_behind, expected_of, meaning_of, met_of, IsStep};
 
-use c_model::words::Mode;
+use crate::modes::Mode;
+use c_tokens::is_identifier;
 
 /// What the next word is read as.
 #[derive(Clone, Copy, Debug)]
@@ -47,26 +47,6 @@ fn behind_letter(text: &str, letter: char) -> Option<&str>
     ensures { option_copied result ≡ behind_byte letter text.now }
 {
     text.strip_prefix(letter)
-}
-
-fn is_identifier(text: &[u8]) -> bool
-    ensures { result ≡ idents.is_identifier text.now }
-{
-    match text {
-        [] => false,
-        [first, ..] => !first.is_ascii_digit() && are_word_bytes(text),
-    }
-}
-
-fn are_word_bytes(text: &[u8]) -> bool
-    ensures { result ≡ idents.are_word_bytes text.now }
-{
-    for byte in text {
-        if !(byte.is_ascii_alphanumeric() || *byte == b'_') {
-            return false;
-        }
-    }
-    true
 }
 
 fn has_line_feed(text: &[u8]) -> bool

@@ -1,14 +1,14 @@
 //! The unit `int main(void) { return E; }`, read token by token from the left.
-ghost use Rattle.std.specs.Prelude.{◌≡◌, ◌≤◌, IfOk};
+ghost use Rattle.std.specs.Prelude.{◌≡◌, ◌≤◌, IfOk, None};
 ghost use Rattle.cake_cli.specs.SortViews.{sort_view};
 ghost use Rattle.cake_cli.specs.Views.{expr_of, open_of, opens_of, stage_of, stage_option, reading_of};
-ghost use Rattle.cake_cli.specs.Reader.{front_rank, past_sign, past_close, past_end, past_operand, past_begin, past_tail, past_front, read_token, read_unit};
+ghost use Rattle.cake_cli.specs.Reader.{front_rank, past_sign, past_close, past_end, past_operand, past_begin, past_tail, past_front, read_token, at_end, read_unit};
 
 use crate::expression::{Expr, NOTHING_OPEN, Open, Waiting, close, join};
 use crate::sorts::{Sort, sort_of};
-use c_model::numbers::BinOp;
 use c_tokens::{CList, CTok};
 use cake_base::{NoMemory, Place};
+use model_types::numbers::BinOp;
 use std::alloc::Global;
 
 /// How far a unit has been read. The innermost of the outer parentheses is the last.
@@ -80,6 +80,31 @@ fn past_sign(
     Ok(Stage::Operand(next, outer))
 }
 
+/// No unit goes on behind this operand.
+fn stop_behind(operand: Expr, here: Open, outer: Vec<Open>) -> Option<Stage>
+    ensures { stage_option result ≡ None }
+{
+    drop(operand);
+    stop_before(here, outer)
+}
+
+/// No unit goes on where an operand is wanted.
+fn stop_before(here: Open, outer: Vec<Open>) -> Option<Stage>
+    ensures { stage_option result ≡ None }
+{
+    drop(here);
+    drop(outer);
+    None
+}
+
+/// No unit goes on behind its value.
+fn stop_at_value(value: Expr) -> Option<Stage>
+    ensures { stage_option result ≡ None }
+{
+    drop(value);
+    None
+}
+
 fn past_close(
     alloc: Global,
     operand: Expr,
@@ -89,7 +114,7 @@ fn past_close(
     ensures { IfOk result (λ s. stage_option s ≡ past_close (expr_of operand) (open_of here) (opens_of outer.items)) }
 {
     match outer.pop() {
-        None => Ok(None),
+        None => Ok(stop_behind(operand, here, outer)),
         Some(next) => {
             let operand = close(alloc, here, operand)?;
             Ok(Some(Stage::Operator(operand, next, outer)))
@@ -106,9 +131,10 @@ fn past_end(
     ensures { IfOk result (λ s. stage_option s ≡ past_end (expr_of operand) (open_of here) (opens_of outer.items)) }
 {
     if outer.is_empty() {
+        drop(outer);
         Ok(Some(Stage::Tail(close(alloc, here, operand)?)))
     } else {
-        Ok(None)
+        Ok(stop_behind(operand, here, outer))
     }
 }
 
@@ -126,15 +152,15 @@ fn past_operand(
         Sort::Sign(op) => Ok(Some(past_sign(alloc, op, place, operand, here, outer)?)),
         Sort::CloseParenthesis => past_close(alloc, operand, here, outer),
         Sort::Semicolon => past_end(alloc, operand, here, outer),
-        Sort::IntWord => Ok(None),
-        Sort::MainName => Ok(None),
-        Sort::OpenParenthesis => Ok(None),
-        Sort::VoidWord => Ok(None),
-        Sort::OpenBrace => Ok(None),
-        Sort::ReturnWord => Ok(None),
-        Sort::Constant(_) => Ok(None),
-        Sort::CloseBrace => Ok(None),
-        Sort::Other => Ok(None),
+        Sort::IntWord => Ok(stop_behind(operand, here, outer)),
+        Sort::MainName => Ok(stop_behind(operand, here, outer)),
+        Sort::OpenParenthesis => Ok(stop_behind(operand, here, outer)),
+        Sort::VoidWord => Ok(stop_behind(operand, here, outer)),
+        Sort::OpenBrace => Ok(stop_behind(operand, here, outer)),
+        Sort::ReturnWord => Ok(stop_behind(operand, here, outer)),
+        Sort::Constant(_) => Ok(stop_behind(operand, here, outer)),
+        Sort::CloseBrace => Ok(stop_behind(operand, here, outer)),
+        Sort::Other => Ok(stop_behind(operand, here, outer)),
     }
 }
 
@@ -155,16 +181,16 @@ fn past_begin(
             let operand = Expr::Constant(constant, place);
             Ok(Some(Stage::Operator(operand, here, outer)))
         }
-        Sort::IntWord => Ok(None),
-        Sort::MainName => Ok(None),
-        Sort::VoidWord => Ok(None),
-        Sort::CloseParenthesis => Ok(None),
-        Sort::OpenBrace => Ok(None),
-        Sort::ReturnWord => Ok(None),
-        Sort::Sign(_) => Ok(None),
-        Sort::Semicolon => Ok(None),
-        Sort::CloseBrace => Ok(None),
-        Sort::Other => Ok(None),
+        Sort::IntWord => Ok(stop_before(here, outer)),
+        Sort::MainName => Ok(stop_before(here, outer)),
+        Sort::VoidWord => Ok(stop_before(here, outer)),
+        Sort::CloseParenthesis => Ok(stop_before(here, outer)),
+        Sort::OpenBrace => Ok(stop_before(here, outer)),
+        Sort::ReturnWord => Ok(stop_before(here, outer)),
+        Sort::Sign(_) => Ok(stop_before(here, outer)),
+        Sort::Semicolon => Ok(stop_before(here, outer)),
+        Sort::CloseBrace => Ok(stop_before(here, outer)),
+        Sort::Other => Ok(stop_before(here, outer)),
     }
 }
 
@@ -173,17 +199,17 @@ fn past_tail(sort: Sort, value: Expr) -> Option<Stage>
 {
     match sort {
         Sort::CloseBrace => Some(Stage::Whole(value)),
-        Sort::IntWord => None,
-        Sort::MainName => None,
-        Sort::OpenParenthesis => None,
-        Sort::VoidWord => None,
-        Sort::CloseParenthesis => None,
-        Sort::OpenBrace => None,
-        Sort::ReturnWord => None,
-        Sort::Constant(_) => None,
-        Sort::Sign(_) => None,
-        Sort::Semicolon => None,
-        Sort::Other => None,
+        Sort::IntWord => stop_at_value(value),
+        Sort::MainName => stop_at_value(value),
+        Sort::OpenParenthesis => stop_at_value(value),
+        Sort::VoidWord => stop_at_value(value),
+        Sort::CloseParenthesis => stop_at_value(value),
+        Sort::OpenBrace => stop_at_value(value),
+        Sort::ReturnWord => stop_at_value(value),
+        Sort::Constant(_) => stop_at_value(value),
+        Sort::Sign(_) => stop_at_value(value),
+        Sort::Semicolon => stop_at_value(value),
+        Sort::Other => stop_at_value(value),
     }
 }
 
@@ -211,7 +237,32 @@ fn read_token(alloc: Global, stage: Stage, token: &CTok) -> Result<Option<Stage>
             past_operand(alloc, sort, token.place, operand, here, outer)
         }
         Stage::Tail(value) => Ok(past_tail(sort, value)),
-        Stage::Whole(_) => Ok(None),
+        Stage::Whole(value) => Ok(stop_at_value(value)),
+    }
+}
+
+/// What is read of a unit whose tokens end at this stage.
+fn at_end(stage: Stage, end: Place) -> Reading
+    ensures { reading_of result ≡ at_end (stage_of stage) end }
+{
+    match stage {
+        Stage::Whole(value) => Reading::Reads(value),
+        Stage::Front(_) => Reading::Stops(end),
+        Stage::Operand(here, outer) => {
+            drop(here);
+            drop(outer);
+            Reading::Stops(end)
+        }
+        Stage::Operator(operand, here, outer) => {
+            drop(operand);
+            drop(here);
+            drop(outer);
+            Reading::Stops(end)
+        }
+        Stage::Tail(value) => {
+            drop(value);
+            Reading::Stops(end)
+        }
     }
 }
 
@@ -229,11 +280,5 @@ pub fn read_unit(alloc: Global, tokens: &CList, end: Place) -> Result<Reading, N
             Some(next) => stage = next,
         }
     }
-    match stage {
-        Stage::Whole(value) => Ok(Reading::Reads(value)),
-        Stage::Front(_) => Ok(Reading::Stops(end)),
-        Stage::Operand(_, _) => Ok(Reading::Stops(end)),
-        Stage::Operator(_, _, _) => Ok(Reading::Stops(end)),
-        Stage::Tail(_) => Ok(Reading::Stops(end)),
-    }
+    Ok(at_end(stage, end))
 }

@@ -1,10 +1,10 @@
 //! What is put on the sinks, built whole before the first put.
 ghost use Rattle.std.specs.Prelude.{◌≡◌, IfOk, Ok};
 ghost use Rattle.cake_base.specs.declared.places.Place.{Place};
-ghost use Rattle.c_model.specs.Answer.{Refused, Unbuilt, Limited, Written, delivery_of};
-ghost use Rattle.c_model.specs.FirstUnit.{returning};
-ghost use Rattle.c_model.specs.ReportLines.{notes_text};
-ghost use Rattle.c_model.specs.Verdict.{HasTree};
+ghost use Rattle.cake_cli.specs.Answer.{Refused, Unbuilt, Limited, Written, delivery_of};
+ghost use Rattle.c_model.specs.FirstUnit.{UnitPlaces, returning};
+ghost use Rattle.cake_cli.specs.ReportLines.{notes_text};
+ghost use Rattle.cake_cli.specs.Verdict.{HasForm};
 ghost use Rattle.pp_directives.specs.Promise.{with_log};
 ghost use Rattle.cake_cli.specs.Promise.{IsDelivered};
 ghost use Rattle.cake_cli.specs.Reports.{IsReport, ReportsTokens, ReportsUnit, ReportsDone, ReportsStop, unread_answer};
@@ -12,11 +12,11 @@ ghost use Rattle.cake_cli.specs.Views.{expr_of};
 
 use crate::expanded::expanded_text;
 use crate::expression::Expr;
+use crate::lowering::text_of;
+use crate::modes::Mode;
 use crate::reader::{Reading, read_unit};
 use crate::report_lines::{push_cannot_read, push_fault, push_limit, push_not_built, push_notes};
-use crate::spelling::spell;
 use crate::status::Status;
-use c_model::words::Mode;
 use c_parser::{ParseError, parse};
 use c_tokens::{CList, TokenError, convert_tokens};
 use cake_base::{Bytes, Fault, LimitHit, NoMemory, Place};
@@ -100,16 +100,16 @@ fn written(alloc: Global, log: &PrepLog, out: Bytes) -> Result<Report, NoMemory>
 
 /// What goes to out of a unit that returns this value.
 fn unit_text(alloc: Global, mode: Mode, value: &Expr) -> Result<Bytes, NoMemory>
-    ensures { IfOk result (λ text. (place : Place) → IsDelivered (delivery_of mode (returning (expr_of value.now) place)) text) }
+    ensures { IfOk result (λ text. (places : UnitPlaces) → IsDelivered (delivery_of mode (returning (expr_of value.now) places)) text) }
 {
     match mode {
-        Mode::Translate => spell(alloc, value),
+        Mode::Translate => text_of(alloc, value),
         Mode::Expand => Ok(Bytes::new(alloc)),
         Mode::Check => Ok(Bytes::new(alloc)),
     }
 }
 
-/// The report on tokens that have a tree.
+/// The report on tokens that are a unit of the grammar.
 fn report_tree(
     alloc: Global,
     mode: Mode,
@@ -117,7 +117,7 @@ fn report_tree(
     tokens: &CList,
     end: Place,
 ) -> Result<Report, NoMemory>
-    requires { HasTree tokens.now }
+    requires { HasForm tokens.now }
     ensures { IfOk result (ReportsTokens mode log.now tokens.now end) }
 {
     match read_unit(alloc, tokens, end)? {

@@ -1,7 +1,7 @@
 //! The lines that are reported.
 ghost use Rattle.std.specs.Prelude.{◌≡◌, ◌++◌, OnOk, unwrap_or};
 ghost use Rattle.std.specs.Fmt.{decimal};
-ghost use Rattle.c_model.specs.ReportLines as spec;
+ghost use Rattle.cake_cli.specs.ReportLines as spec;
 
 use crate::texts::{limit_text, rule_text};
 use cake_base::{Bytes, Family, Fault, LimitHit, NoMemory, Note, Place};

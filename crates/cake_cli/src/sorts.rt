@@ -4,8 +4,31 @@ ghost use Rattle.cake_cli.specs.Sorts as spec;
 ghost use Rattle.cake_cli.specs.SortViews.{sort_view};
 
 use crate::constants::IntConstant;
-use c_model::numbers::{Basic, BinOp, Const};
 use c_tokens::{CKind, CTok};
+use model_types::numbers::{Basic, BinOp, Const};
+
+// Numbers of words and punctuators in the vocabulary.
+const VOID: u32 = 11;
+
+const INT: u32 = 14;
+
+const RETURN: u32 = 39;
+
+const SEMICOLON: u32 = 2;
+
+const OPEN_PARENTHESIS: u32 = 3;
+
+const CLOSE_PARENTHESIS: u32 = 4;
+
+const OPEN_BRACE: u32 = 7;
+
+const CLOSE_BRACE: u32 = 8;
+
+const STAR: u32 = 11;
+
+const PLUS: u32 = 38;
+
+const MINUS: u32 = 39;
 
 /// The sort of a token.
 #[derive(Clone, Copy, Debug)]
@@ -27,11 +50,11 @@ pub enum Sort {
 fn word_sort(number: u32) -> Sort
     ensures { sort_view result ≡ spec.word_sort number }
 {
-    if number == 14 {
+    if number == INT {
         Sort::IntWord
-    } else if number == 11 {
+    } else if number == VOID {
         Sort::VoidWord
-    } else if number == 39 {
+    } else if number == RETURN {
         Sort::ReturnWord
     } else {
         Sort::Other
@@ -83,11 +106,11 @@ fn constant_sort(constant: Const) -> Sort
 fn sign_sort(number: u32) -> Sort
     ensures { sort_view result ≡ spec.sign_sort number }
 {
-    if number == 11 {
+    if number == STAR {
         Sort::Sign(BinOp::Mul)
-    } else if number == 38 {
+    } else if number == PLUS {
         Sort::Sign(BinOp::Add)
-    } else if number == 39 {
+    } else if number == MINUS {
         Sort::Sign(BinOp::Sub)
     } else {
         Sort::Other
@@ -97,15 +120,15 @@ fn sign_sort(number: u32) -> Sort
 fn punctuator_sort(number: u32) -> Sort
     ensures { sort_view result ≡ spec.punctuator_sort number }
 {
-    if number == 3 {
+    if number == OPEN_PARENTHESIS {
         Sort::OpenParenthesis
-    } else if number == 4 {
+    } else if number == CLOSE_PARENTHESIS {
         Sort::CloseParenthesis
-    } else if number == 7 {
+    } else if number == OPEN_BRACE {
         Sort::OpenBrace
-    } else if number == 8 {
+    } else if number == CLOSE_BRACE {
         Sort::CloseBrace
-    } else if number == 2 {
+    } else if number == SEMICOLON {
         Sort::Semicolon
     } else {
         sign_sort(number)

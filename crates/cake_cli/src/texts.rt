@@ -1,6 +1,6 @@
 //! The texts of the rules and of the limits.
 ghost use Rattle.std.specs.Prelude.{◌≡◌, map};
-ghost use Rattle.c_model.specs.RuleTexts as spec;
+ghost use Rattle.cake_cli.specs.RuleTexts as spec;
 
 use cake_base::{Family, Limit, Rule};
 

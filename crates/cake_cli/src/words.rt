@@ -1,13 +1,13 @@
 //! The words of the command.
 ghost use Rattle.std.specs.Prelude.{◌≡◌, ◌<◌, map, length, string_bytes, IfOk, IfErr, OnOk, IsOk, Err};
-ghost use Rattle.c_model.specs.PreprocessedUnit.{command_lines};
-ghost use Rattle.c_model.specs.Words.{plan};
-ghost use Rattle.c_model.specs.ReportLines.{usage_line};
+ghost use Rattle.model_preprocessing.specs.PreprocessedUnit.{command_lines};
+ghost use Rattle.cake_cli.specs.Words.{plan};
+ghost use Rattle.cake_cli.specs.ReportLines.{usage_line};
 ghost use Rattle.cake_cli.specs.WordsRead.{meaning_of, with_meaning, Answers, IsMemory};
 
 use crate::meanings::{Meaning, Met};
+use crate::modes::Mode;
 use arrayvec::ArrayString;
-use c_model::words::Mode;
 use cake_base::{FileName, NoMemory};
 use itoa::Buffer;
 use pp_directives::Options;
@@ -85,12 +85,18 @@ fn take_words(alloc: Global, words: &[String]) -> Result<Plan, WordsError>
     let mut met = Met::nothing();
     for (i, word) in words.iter().enumerate() {
         match met.step(word.as_str()) {
-            None => return Err(WordsError::Bad(i + 1)),
+            None => {
+                drop(options);
+                return Err(WordsError::Bad(i + 1));
+            }
             Some(meaning) => add(&mut options, meaning)?,
         }
     }
     match met.named() {
-        None => Err(WordsError::Bad(words.len() + 1)),
+        None => {
+            drop(options);
+            Err(WordsError::Bad(words.len() + 1))
+        }
         Some(file) => Ok(Plan {
             mode: met.mode.unwrap_or(Mode::Translate),
             file: Some(FileName::new(alloc, file)?),

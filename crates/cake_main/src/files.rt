@@ -1,6 +1,8 @@
 //! Files of the system, which tell nothing of what they hold.
-ghost use Rattle.std.specs.Prelude.{◌≡◌, ◌+◌, ◌≤◌, take, length, None, OnOk, IsErrOf};
+ghost use Rattle.std.specs.Prelude.{◌≡◌, ◌+◌, ◌++◌, ◌≤◌, ◌<◌, length, None, IfSome, IfErr, OnOk, IsErrOf};
+ghost use Rattle.std.specs.Io.{StartsWith};
 ghost use Rattle.cake_base.specs.Outside.{max_file};
+ghost use Rattle.cake_main.specs.System.{opening_fault};
 
 use cake_base::{Files, MAX_FILE, ReadFault};
 use std::alloc::Global;
@@ -29,37 +31,49 @@ impl<'r, R> RealFiles<'r, R> {
     }
 }
 
+/// Why a file that can't be opened isn't read: no file has the name, or the system failed.
+fn opening_fault(kind: ErrorKind) -> ReadFault
+    ensures { result ≡ opening_fault kind }
+{
+    match kind {
+        ErrorKind::NotFound
+        | ErrorKind::NotADirectory
+        | ErrorKind::InvalidFilename
+        | ErrorKind::InvalidInput => ReadFault::Missing,
+        _ => ReadFault::Failed,
+    }
+}
+
 // Appends all that is left, up to the greatest size.
 fn read_rest<R: Read>(from: &mut R, into: &mut Vec<u8>) -> Result<(), ReadFault>
-    ensures front { take (length into.old.items) into.new.items ≡ into.old.items }
-    ensures size { length into.old.items ≤ length into.new.items }
-    ensures ok { OnOk result (length into.new.items ≤ length into.old.items + max_file) }
+    ensures front { StartsWith into.new.items into.old.items }
+    ensures size { OnOk result (length into.new.items ≤ length into.old.items + max_file) }
+    ensures whole { OnOk result (IfSome (R.remaining from.old) (λ bytes. into.new.items ≡ into.old.items ++ bytes)) }
+    ensures too_large { IsErrOf result ReadFault.TooLarge → IfSome (R.remaining from.old) (λ bytes. max_file < length bytes) }
     ensures present { IsErrOf result ReadFault.Missing → ⊥ }
 {
-    let mut got = 0;
-    let mut buffer = [0u8; 4096];
-    loop {
-        match from.read(&mut buffer) {
-            Ok(0) => return Ok(()),
-            Ok(count) => {
-                if count > MAX_FILE - got {
-                    return Err(ReadFault::TooLarge);
-                }
-                if into.extend_from_slice(&buffer[..count]).is_err() {
-                    return Err(ReadFault::NoMemory);
-                }
-                got += count;
+    match from.take(MAX_FILE as u64 + 1).read_to_end(into) {
+        Ok(count) => {
+            if count > MAX_FILE {
+                Err(ReadFault::TooLarge)
+            } else {
+                Ok(())
             }
-            Err(_) => return Err(ReadFault::Failed),
+        }
+        Err(error) => {
+            if error.kind() == ErrorKind::OutOfMemory {
+                Err(ReadFault::NoMemory)
+            } else {
+                Err(ReadFault::Failed)
+            }
         }
     }
 }
 
 // Appends what stands under the name; after a refusal some of it may be there.
 fn fetch<R: rt::Files + Input>(system: &R, name: &str, into: &mut Vec<u8>) -> Result<(), ReadFault>
-    ensures front { take (length into.old.items) into.new.items ≡ into.old.items }
-    ensures size { length into.old.items ≤ length into.new.items }
-    ensures ok { OnOk result (length into.new.items ≤ length into.old.items + max_file) }
+    ensures front { StartsWith into.new.items into.old.items }
+    ensures size { OnOk result (length into.new.items ≤ length into.old.items + max_file) }
 {
     if name == "-" {
         return read_rest(&mut system.reader(), into);
@@ -69,10 +83,7 @@ fn fetch<R: rt::Files + Input>(system: &R, name: &str, into: &mut Vec<u8>) -> Re
             let mut file = file;
             read_rest(&mut file, into)
         }
-        Err(error) => match error.kind() {
-            ErrorKind::NotFound | ErrorKind::NotADirectory => Err(ReadFault::Missing),
-            _ => Err(ReadFault::Failed),
-        },
+        Err(error) => Err(opening_fault(error.kind())),
     }
 }
 

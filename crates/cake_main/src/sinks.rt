@@ -1,5 +1,8 @@
 //! Streams of the system, which tell nothing of what they hold.
-ghost use Rattle.std.specs.Prelude.{◌≡◌, None};
+ghost use Rattle.std.specs.Prelude.{◌≡◌, ◌≤◌, None, OnOk};
+ghost use Rattle.std.specs.Io.KnownBytes.{Appends};
+ghost use Rattle.cake_base.specs.Outside.{PutGives};
+ghost use Rattle.cake_main.specs.System.{untold};
 
 use cake_base::{Sink, WriteFault};
 use std::io::Write;
@@ -21,19 +24,20 @@ impl<W> RealSink<W> {
 }
 
 impl<W: Write> Sink for RealSink<W> {
-    ghost shows = { λ s. record { content = None; faults = s.faults } };
+    ghost shows = { λ s. untold s.faults };
 
-    fn put(&mut self, bytes: &[u8]) -> Result<(), WriteFault> {
-        let mut done = 0;
-        while done < bytes.len() {
-            match self.stream.write(&bytes[done..]) {
-                Ok(0) | Err(_) => {
-                    self.faults = self.faults.saturating_add(1);
-                    return Err(WriteFault::Failed);
-                }
-                Ok(count) => done += count,
+    // Where the stream tells what it holds, all the bytes stand there after an Ok.
+    fn put(&mut self, bytes: &[u8]) -> Result<(), WriteFault>
+        ensures faults { self.old.faults ≤ self.new.faults }
+        ensures gives { PutGives (untold self.old.faults) (untold self.new.faults) bytes.now result }
+        ensures appends { OnOk result (Appends (W.contents self.old.stream) (W.contents self.new.stream) bytes.now) }
+    {
+        match self.stream.write_all(bytes) {
+            Ok(()) => Ok(()),
+            Err(_) => {
+                self.faults = self.faults.saturating_add(1);
+                Err(WriteFault::Failed)
             }
         }
-        Ok(())
     }
 }

@@ -5,13 +5,16 @@ use std::fs;
 use std::test::Fail;
 
 #[test]
-fn a_missing_file_and_one_that_is_too_large(rt: HostRuntime) -> Result<(), Fail> {
+fn files_that_are_missing_failed_or_too_large(rt: HostRuntime) -> Result<(), Fail> {
     let alloc = rt.alloc();
     let mut files = RealFiles::new(&rt);
     let mut into = Vec::new(alloc);
+    for name in ["no such file", "/dev/null/below", "a\0b"] {
+        assert_eq!(rt; files.read(alloc, name, &mut into), Err(ReadFault::Missing));
+    }
     assert_eq!(rt;
-        files.read(alloc, "no such file", &mut into),
-        Err(ReadFault::Missing)
+        files.read(alloc, "/dev", &mut into),
+        Err(ReadFault::Failed)
     );
     assert_eq!(rt;
         files.read(alloc, "/dev/zero", &mut into),

@@ -2,9 +2,9 @@
 use Rattle.std.proofs.Common.{◌≡◌, ℕ, Bool, true, false, List, [], ◌∷◌, ◌++◌, map, Option, Some, None, refl, ap, sym, ◌∙◌, cond}
 use Rattle.std.specs.Map.{lookup as lookup_by}
 use Rattle.std.proofs.lemmas.List.{map-append}
-use Rattle.c_model.specs.Macros.{same_text}
-use Rattle.c_model.specs.Binding.{bound}
+use Rattle.decl_scope.specs.Binding.{bound}
 use Rattle.indexmap.specs.IndexMap.{insert_entry}
+use Rattle.model_types.specs.Texts.{same_text}
 
 abbrev pub seen : {K : Type 0} → (K → List ℕ) → List (K × ℕ) → List (List ℕ × ℕ)
 seen text es = map (λ e. (text e.0, e.1)) es

@@ -2,11 +2,11 @@
 use Rattle.std.proofs.Common.{◌≡◌, ℕ, Bool, true, false, ◌&&◌, nat_eq, Option, Some, None, refl, ap, sym, ◌∙◌}
 use Rattle.std.proofs.lemmas.Bool.{and_parts}
 use borrow.Author.Tests.{eqb-true}
-use Rattle.c_model.specs.declared.numbers.Basic.{Basic}
-use Rattle.c_model.specs.declared.types.Quals.{Quals}
-use Rattle.c_model.specs.Types.{CType, typed, Form, Void, Integer, Enum, Pointer, Array, Struct, Function, Types, no_types, more_types}
-use Rattle.c_model.specs.Compatible.{ordinal, same_basic, same_bool, same_ownership, same_quals, lengths_agree, compatible, compatible_passed, compatible_forms, compatible_lists}
-use Rattle.c_model.specs.CompositeTypes.{known_length, composite, composite_form, composite_types}
+use Rattle.model_types.specs.declared.numbers.Basic.{Basic}
+use Rattle.model_types.specs.declared.types.Quals.{Quals}
+use Rattle.model_types.specs.Types.{CType, typed, Form, Void, Integer, Enum, Pointer, Array, Struct, Function, Types, no_types, more_types}
+use Rattle.model_types.specs.Compatible.{ordinal, same_basic, same_bool, same_ownership, same_quals, lengths_agree, compatible, compatible_passed, compatible_forms, compatible_lists}
+use Rattle.decl_scope.specs.CompositeTypes.{known_length, composite, composite_form, composite_types}
 
 twice : (a : Bool) → a ≡ (a && a)
 twice true = refl

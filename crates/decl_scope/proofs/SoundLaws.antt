@@ -1,14 +1,14 @@
 -- What is bound is declared, and declarations fit, after each call.
 use Rattle.std.proofs.Common.{◌≡◌, ℕ, zero, suc, ◌+◌, ◌<◌, ◌≤◌, Bool, true, false, ◌&&◌, ◌||◌, not, nat_eq, List, [], ◌∷◌, ◌++◌, length, length-append, Option, Some, None, IsTrue, refl, ap, sym, subst, ◌∙◌, cond, arith}
 use Rattle.std.specs.Option.{is_some}
-use Rattle.c_model.specs.Macros.{same_text}
-use Rattle.c_model.specs.Structures.{Member, Structure, completed, names_below}
-use Rattle.c_model.specs.Declarations.{Declaration, fits}
-use Rattle.c_model.specs.Scopes.{Declared, Level, Scopes, with_id, is_declared, changed}
-use Rattle.c_model.specs.Binding.{bound, name_space, bound_in, bound_among, or_else}
-use Rattle.c_model.specs.Declaring.{with_name, with_name_if_new, naming, with_linked}
+use Rattle.model_types.specs.Structures.{Member, Structure, completed, names_below}
+use Rattle.decl_scope.specs.Declarations.{Declaration, fits}
+use Rattle.decl_scope.specs.Scopes.{Declared, Level, Scopes, with_id, is_declared, changed}
+use Rattle.decl_scope.specs.Binding.{bound, name_space, bound_in, bound_among, or_else}
+use Rattle.decl_scope.specs.Declaring.{with_name, with_name_if_new, naming, with_linked}
 use Rattle.c_types.proofs.Growth.{names_more, length_completed}
 use Rattle.decl_scope.specs.Soundness.{AreDeclared, LevelsDeclared, AreBelow, AreFit, IsSound}
+use Rattle.model_types.specs.Texts.{same_text}
 
 abbrev pub Table : Type 0
 Table = List (ℕ × Declared)

@@ -1,9 +1,9 @@
 -- What holds of the scopes at any point: what is bound is declared, ids that will be drawn aren't yet,
 -- and declarations fit their kinds and name structures that are there.
 use Rattle.std.specs.Prelude.{ℕ, ◌<◌, List, [], ◌∷◌, length, IsTrue}
-use Rattle.c_model.specs.Structures.{names_below}
-use Rattle.c_model.specs.Declarations.{fits}
-use Rattle.c_model.specs.Scopes.{Declared, Level, Scopes, is_declared}
+use Rattle.model_types.specs.Structures.{names_below}
+use Rattle.decl_scope.specs.Declarations.{fits}
+use Rattle.decl_scope.specs.Scopes.{Declared, Level, Scopes, is_declared}
 
 abbrev pub AreDeclared : List (ℕ × Declared) → List (List ℕ × ℕ) → Type 0
 AreDeclared ds [] = Unit {0}

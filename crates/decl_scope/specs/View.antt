@@ -1,5 +1,5 @@
 -- The scopes as contracts see them.
-use Rattle.c_model.specs.Scopes as m
+use Rattle.decl_scope.specs.Scopes as m
 use Rattle.decl_scope.specs.declared.scopes.Scopes.TheInside.{Inside}
 
 abbrev pub scopes_of : Inside → m.Scopes

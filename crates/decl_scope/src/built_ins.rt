@@ -1,17 +1,15 @@
 //! The built-in functions and their types.
 ghost use Rattle.std.specs.Prelude.{◌≡◌, IfOk, [], ◌∷◌, false};
-ghost use Rattle.c_model.specs.Types as t;
-ghost use Rattle.c_model.specs.CoreTypes as p;
-ghost use Rattle.c_model.specs.SourceCalls as s;
-ghost use Rattle.c_model.specs.Allocation as f;
-ghost use Rattle.c_model.specs.BuiltinTypes as m;
-ghost use Rattle.c_model.specs.DeclarationRules as r;
+ghost use Rattle.model_types.specs.Types as t;
+ghost use Rattle.model_core.specs.CoreTypes as p;
+ghost use Rattle.model_core.specs.BuiltinTypes as m;
+ghost use Rattle.decl_scope.specs.DeclarationRules as r;
 ghost use Rattle.c_types.specs.Forms.{form_of};
 
-use c_model::numbers::Basic;
-use c_model::types::Quals;
 use c_types::{CType, TypeForm, TypeList};
 use cake_base::NoMemory;
+use model_types::numbers::Basic;
+use model_types::types::Quals;
 use std::alloc::Global;
 
 /// Qualifiers, of which `_Owner` and `_Opt` stand or don't.
@@ -35,7 +33,7 @@ fn plain(alloc: Global, form: TypeForm) -> Result<CType, NoMemory>
 }
 
 fn size_type(alloc: Global) -> Result<CType, NoMemory>
-    ensures { IfOk result (λ made. made ≡ s.size_type) }
+    ensures { IfOk result (λ made. made ≡ m.size_type) }
 {
     plain(alloc, TypeForm::Integer(Basic::UnsignedLong))
 }
@@ -64,20 +62,20 @@ fn one_parameter(alloc: Global, ty: CType) -> Result<TypeList, NoMemory>
 }
 
 fn function_type(alloc: Global, answer: CType, parameters: TypeList) -> Result<CType, NoMemory>
-    ensures { IfOk result (λ made. made ≡ s.function_type answer (t.types parameters)) }
+    ensures { IfOk result (λ made. made ≡ m.function_type answer (t.types parameters)) }
 {
     plain(alloc, TypeForm::Function(answer, parameters, false))
 }
 
 fn malloc_type(alloc: Global) -> Result<CType, NoMemory>
-    ensures { IfOk result (λ made. made ≡ m.declared_type f.Malloc) }
+    ensures { IfOk result (λ made. made ≡ m.declared_type m.Malloc) }
 {
     let parameters = one_parameter(alloc, size_type(alloc)?)?;
     function_type(alloc, block_type(alloc)?, parameters)
 }
 
 fn calloc_type(alloc: Global) -> Result<CType, NoMemory>
-    ensures { IfOk result (λ made. made ≡ m.declared_type f.Calloc) }
+    ensures { IfOk result (λ made. made ≡ m.declared_type m.Calloc) }
 {
     let mut parameters = one_parameter(alloc, size_type(alloc)?)?;
     parameters.push(size_type(alloc)?)?;
@@ -86,21 +84,21 @@ fn calloc_type(alloc: Global) -> Result<CType, NoMemory>
 
 /// The type of a function that gives nothing.
 fn procedure_type(alloc: Global, parameters: TypeList) -> Result<CType, NoMemory>
-    ensures { IfOk result (λ made. made ≡ s.function_type (p.plain t.Void) (t.types parameters)) }
+    ensures { IfOk result (λ made. made ≡ m.function_type (p.plain t.Void) (t.types parameters)) }
 {
     let nothing = plain(alloc, TypeForm::Void)?;
     function_type(alloc, nothing, parameters)
 }
 
 fn free_type(alloc: Global) -> Result<CType, NoMemory>
-    ensures { IfOk result (λ made. made ≡ m.declared_type f.Free) }
+    ensures { IfOk result (λ made. made ≡ m.declared_type m.Free) }
 {
     let parameters = one_parameter(alloc, block_type(alloc)?)?;
     procedure_type(alloc, parameters)
 }
 
 fn exit_type(alloc: Global) -> Result<CType, NoMemory>
-    ensures { IfOk result (λ made. made ≡ m.declared_type f.Exit) }
+    ensures { IfOk result (λ made. made ≡ m.declared_type m.Exit) }
 {
     let parameters = one_parameter(alloc, status_type(alloc)?)?;
     procedure_type(alloc, parameters)

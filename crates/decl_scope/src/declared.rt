@@ -1,16 +1,16 @@
 //! What has an id.
 ghost use Rattle.std.specs.Prelude.{◌≡◌};
 ghost use Rattle.std.specs.Option.{option_copied};
-ghost use Rattle.c_model.specs.Scopes as m;
-ghost use Rattle.c_model.specs.Declaring as d;
-ghost use Rattle.c_model.specs.NotedUses as u;
+ghost use Rattle.decl_scope.specs.Scopes as m;
+ghost use Rattle.decl_scope.specs.Declaring as d;
+ghost use Rattle.decl_scope.specs.NotedUses as u;
 ghost use Rattle.decl_scope.specs.Values.{value_if_any};
 ghost use Rattle.decl_scope.specs.Later.{taken};
 
 use crate::entry::Entry;
-use c_model::numbers::Const;
 use c_types::CType;
 use cake_base::Place;
+use model_types::numbers::Const;
 use std::marker::Model;
 
 /// What has an id: its latest declaration, and what is known of all of them.
@@ -24,8 +24,8 @@ pub struct Declared {
 }
 
 impl Model for Declared {
-    ghost use Rattle.c_model.specs.Scopes as m;
-    ghost use Rattle.decl_scope.specs.DeclarationCode.{coded_declared};
+    ghost use Rattle.decl_scope.specs.Scopes as m;
+    ghost use Rattle.decl_scope.specs.apparatus.DeclarationCode.{coded_declared};
 
     ghost Value = { m.Declared };
 

@@ -1,12 +1,12 @@
 //! A declaration of a name.
 ghost use Rattle.std.specs.Prelude.{◌≡◌, ◌&&◌};
-ghost use Rattle.c_model.specs.Declarations as m;
-ghost use Rattle.c_model.specs.NotedUses as u;
+ghost use Rattle.decl_scope.specs.Declarations as m;
+ghost use Rattle.decl_scope.specs.NotedUses as u;
 
-use c_model::declarations::{Kind, Linkage};
-use c_model::numbers::Const;
+use crate::declarations::{Kind, Linkage};
 use c_types::CType;
 use cake_base::{Bytes, Place};
+use model_types::numbers::Const;
 use std::marker::Model;
 
 /// A declaration of a name (ISO/IEC 9899:2024, 6.7). Contracts see the record of what it says.
@@ -28,8 +28,8 @@ pub struct Entry {
 }
 
 impl Model for Entry {
-    ghost use Rattle.c_model.specs.Declarations as m;
-    ghost use Rattle.decl_scope.specs.DeclarationCode.{coded_declaration};
+    ghost use Rattle.decl_scope.specs.Declarations as m;
+    ghost use Rattle.decl_scope.specs.apparatus.DeclarationCode.{coded_declaration};
 
     ghost Value = { m.Declaration };
 

@@ -2,11 +2,11 @@
 ghost use Rattle.std.specs.Prelude.{◌≡◌, ℕ, ◌≤◌, true, ◌&&◌, Some, slice_get};
 ghost use Rattle.cake_base.specs.declared.places.Place.{Place};
 ghost use Rattle.cake_base.specs.declared.rules.Fault.{Fault};
-ghost use Rattle.c_model.specs.Types.{CType};
-ghost use Rattle.c_model.specs.Compatible.{compatible};
-ghost use Rattle.c_model.specs.CompositeTypes.{composite};
-ghost use Rattle.c_model.specs.Scopes.{Declared, Scopes};
-ghost use Rattle.c_model.specs.NotedUses.{unmet_use, unresolved};
+ghost use Rattle.model_types.specs.Types.{CType};
+ghost use Rattle.model_types.specs.Compatible.{compatible};
+ghost use Rattle.decl_scope.specs.CompositeTypes.{composite};
+ghost use Rattle.decl_scope.specs.Scopes.{Declared, Scopes};
+ghost use Rattle.decl_scope.specs.NotedUses.{unmet_use, unresolved};
 
 /// A type is compatible with the composite type of two compatible types exactly where it is
 /// compatible with both. So a redeclaration is compared with all declarations before it.

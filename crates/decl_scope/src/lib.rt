@@ -4,6 +4,7 @@
 mod around;
 mod built_ins;
 mod composites;
+mod declarations;
 mod declared;
 mod entry;
 mod errors;
@@ -16,13 +17,8 @@ mod scopes;
 mod table;
 mod typedefs;
 
-pub use c_model::declarations::{Kind, Linkage};
-pub use c_model::marks::DeclId;
+pub use declarations::{Kind, Linkage};
 pub use entry::Entry;
 pub use errors::ScopeError;
+pub use model_types::marks::DeclId;
 pub use scopes::Scopes;
-
-#[cfg(test)]
-mod size_tests;
-#[cfg(test)]
-mod tests;

@@ -1,17 +1,32 @@
 //! The constraints on a declaration where others stand.
 ghost use Rattle.std.specs.Prelude.{◌≡◌, IfOk};
 ghost use Rattle.std.specs.Option.{option_copied};
-ghost use Rattle.c_model.specs.Types.{form_of_type};
-ghost use Rattle.c_model.specs.DeclarationRules as m;
+ghost use Rattle.model_types.specs.Types.{form_of_type};
+ghost use Rattle.decl_scope.specs.DeclarationRules as m;
 
 use crate::built_ins::built_in_type;
+use crate::declarations::{Kind, Linkage};
 use crate::declared::Declared;
 use crate::entry::Entry;
 use crate::typedefs::same_typedef;
-use c_model::declarations::{Kind, Linkage};
 use c_types::{CType, Structs, TypeForm, compatible};
 use cake_base::{Family, Fault, NoMemory, Place, Rule};
 use std::alloc::Global;
+
+/// The name begins with `cake_`.
+const RESERVED_NAME: u32 = 1;
+/// The name is declared in its scope and name space already.
+const DECLARED_TWICE: u32 = 2;
+/// The type doesn't agree with that of an earlier declaration.
+const OTHER_TYPE: u32 = 3;
+/// An earlier declaration has another linkage.
+const OTHER_LINKAGE: u32 = 4;
+/// A tag is of another kind, or has its braces twice.
+const OTHER_TAG: u32 = 6;
+/// A built-in function is defined, or declared otherwise.
+const BUILT_IN_FUNCTION: u32 = 7;
+/// An internal function is used and not defined.
+pub const UNDEFINED_FUNCTION: u32 = 8;
 
 /// A rule of the family C at a place.
 pub fn constraint_at(place: Place, number: u32) -> Fault
@@ -157,7 +172,7 @@ fn rebuilds(alloc: Global, structs: &Structs, entry: &Entry) -> Result<bool, NoM
     }
 }
 
-/// The smallest rule from C03 on that a declaration breaks.
+/// The first constraint on the type, linkage, tag or built-in function that a declaration breaks.
 fn broken_later(
     alloc: Global,
     structs: &Structs,
@@ -167,16 +182,16 @@ fn broken_later(
     ensures { IfOk result (λ found. found ≡ m.broken_later entry.now (option_copied earlier.entry)) }
 {
     if differs(structs, entry, earlier) {
-        return Ok(Some(3));
+        return Ok(Some(OTHER_TYPE));
     }
     if links_otherwise(entry, earlier) {
-        return Ok(Some(4));
+        return Ok(Some(OTHER_LINKAGE));
     }
     if retags(entry, earlier) {
-        return Ok(Some(6));
+        return Ok(Some(OTHER_TAG));
     }
     if rebuilds(alloc, structs, entry)? {
-        return Ok(Some(7));
+        return Ok(Some(BUILT_IN_FUNCTION));
     }
     Ok(None)
 }
@@ -193,10 +208,10 @@ pub fn broken_rule(
     ensures { IfOk result (λ found. found ≡ m.broken_by entry.now (option_copied standing.entry) (option_copied earlier.entry)) }
 {
     if has_prefix(entry.name.as_slice()) {
-        return Ok(Some(1));
+        return Ok(Some(RESERVED_NAME));
     }
     if clashes(entry, standing) {
-        return Ok(Some(2));
+        return Ok(Some(DECLARED_TWICE));
     }
     broken_later(alloc, structs, entry, earlier)
 }

@@ -2,32 +2,32 @@
 ghost use Rattle.std.specs.Prelude.{◌≡◌, ◌<◌, List, ◌∷◌, length, true, false, None, IsTrue, IfSome, IfOk, OnOk, OnErr};
 ghost use Rattle.std.specs.Option.{option_map, option_copied};
 ghost use Rattle.std.specs.List.{list_all};
-ghost use Rattle.c_model.specs.Structures as t;
-ghost use Rattle.c_model.specs.Layout as l;
-ghost use Rattle.c_model.specs.Declarations as d;
-ghost use Rattle.c_model.specs.Scopes as m;
-ghost use Rattle.c_model.specs.Binding as b;
-ghost use Rattle.c_model.specs.DeclarationRules as r;
-ghost use Rattle.c_model.specs.Declaring as j;
-ghost use Rattle.c_model.specs.NotedUses as u;
+ghost use Rattle.model_types.specs.Structures as t;
+ghost use Rattle.model_types.specs.Layout as l;
+ghost use Rattle.decl_scope.specs.Declarations as d;
+ghost use Rattle.decl_scope.specs.Scopes as m;
+ghost use Rattle.decl_scope.specs.Binding as b;
+ghost use Rattle.decl_scope.specs.DeclarationRules as r;
+ghost use Rattle.decl_scope.specs.Declaring as j;
+ghost use Rattle.decl_scope.specs.NotedUses as u;
 ghost use Rattle.decl_scope.specs.Values.{value_if_any};
 ghost use Rattle.decl_scope.specs.Answers.{Declares};
 
 use crate::around::Around;
+use crate::declarations::{Kind, Linkage};
 use crate::declared::Declared;
 use crate::entry::Entry;
 use crate::errors::ScopeError;
 use crate::joining::{declare_again, declare_first};
 use crate::level::Level;
 use crate::names::Names;
-use crate::rules::{broken_rule, constraint_at};
+use crate::rules::{UNDEFINED_FUNCTION, broken_rule, constraint_at};
 use crate::table::Table;
-use c_model::declarations::{Kind, Linkage};
-use c_model::marks::DeclId;
-use c_model::numbers::Const;
-use c_model::types::StructId;
 use c_types::{CType, Members, Structs};
 use cake_base::{Bytes, Fault, NoMemory, Place};
+use model_types::marks::DeclId;
+use model_types::numbers::Const;
+use model_types::types::StructId;
 use std::alloc::Global;
 use std::marker::Model;
 use std::mem;
@@ -48,8 +48,8 @@ pub struct Scopes {
 }
 
 impl Model for Scopes {
-    ghost use Rattle.c_model.specs.Scopes as m;
-    ghost use Rattle.decl_scope.specs.ScopesCode.{coded_scopes};
+    ghost use Rattle.decl_scope.specs.Scopes as m;
+    ghost use Rattle.decl_scope.specs.apparatus.ScopesCode.{coded_scopes};
 
     ghost Value = { m.Scopes };
 
@@ -326,7 +326,7 @@ impl Scopes {
         ensures { result ≡ u.unresolved self.now }
     {
         match self.table.first_undefined() {
-            Some(place) => Some(constraint_at(place, 8)),
+            Some(place) => Some(constraint_at(place, UNDEFINED_FUNCTION)),
             None => None,
         }
     }

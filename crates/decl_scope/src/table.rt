@@ -1,18 +1,18 @@
 //! What is declared, by its id.
 ghost use Rattle.std.specs.Prelude.{◌≡◌, ◌++◌, ◌∷◌, [], ℕ, List, None, OnOk, OnErr};
 ghost use Rattle.std.specs.Option.{option_copied};
-ghost use Rattle.c_model.specs.Scopes as m;
-ghost use Rattle.c_model.specs.Declaring as d;
-ghost use Rattle.c_model.specs.NotedUses as u;
+ghost use Rattle.decl_scope.specs.Scopes as m;
+ghost use Rattle.decl_scope.specs.Declaring as d;
+ghost use Rattle.decl_scope.specs.NotedUses as u;
 ghost use Rattle.decl_scope.specs.Values.{value_if_any};
 ghost use Rattle.decl_scope.specs.Later.{taken};
 
 use crate::declared::{Declared, first_of};
 use crate::entry::Entry;
-use c_model::numbers::Const;
 use c_types::CType;
 use cake_base::{NoMemory, Place};
 use indexmap::IndexMap;
+use model_types::numbers::Const;
 use std::alloc::Global;
 use std::marker::Model;
 
@@ -25,8 +25,8 @@ pub struct Table {
 impl Model for Table {
     ghost use Rattle.std.specs.Prelude.{List, ℕ};
     ghost use Rattle.std.specs.Coded.{coded_list, coded×, coded_ℕ};
-    ghost use Rattle.c_model.specs.Scopes as m;
-    ghost use Rattle.decl_scope.specs.DeclarationCode.{coded_declared};
+    ghost use Rattle.decl_scope.specs.Scopes as m;
+    ghost use Rattle.decl_scope.specs.apparatus.DeclarationCode.{coded_declared};
 
     ghost Value = { List (ℕ × m.Declared) };
 

@@ -1,25 +1,11 @@
 //! When a name of a type may be declared again.
 ghost use Rattle.std.specs.Prelude.{◌≡◌};
-ghost use Rattle.c_model.specs.Types as t;
-ghost use Rattle.c_model.specs.Compatible as c;
-ghost use Rattle.c_model.specs.SameTypes as s;
-ghost use Rattle.c_model.specs.SameTypedefs as m;
+ghost use Rattle.model_types.specs.Types as t;
+ghost use Rattle.model_core.specs.SameTypes as s;
+ghost use Rattle.decl_scope.specs.SameTypedefs as m;
 ghost use Rattle.c_types.specs.Forms.{form_of};
 
-use c_model::types::Quals;
-use c_types::{CType, TypeForm};
-
-fn same_ownership(a: Quals, b: Quals) -> bool
-    ensures { result ≡ c.same_ownership a b }
-{
-    a.has_owner == b.has_owner && a.has_view == b.has_view && a.has_opt == b.has_opt
-}
-
-fn same_quals(a: Quals, b: Quals) -> bool
-    ensures { result ≡ c.same_quals a b }
-{
-    a.has_const == b.has_const && a.has_restrict == b.has_restrict && same_ownership(a, b)
-}
+use c_types::{CType, TypeForm, same_ownership, same_quals};
 
 fn same_length(a: Option<u64>, b: Option<u64>) -> bool
     ensures { result ≡ s.same_length a b }

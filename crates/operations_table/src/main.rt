@@ -1,6 +1,6 @@
 //! Prints conversions of integers, usual conversions, and operations at their edges, a line each.
 //!
-//! `stdout` beside this crate is what a C compiler gives for the same lines; `tests/operations.py`
+//! `stdout` beside this crate is what a C compiler gives for the same lines; `tests/oracles/operations.py`
 //! makes it.
 #![tactic(auto)]
 

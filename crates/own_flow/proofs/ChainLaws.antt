@@ -2,7 +2,7 @@
 use Rattle.std.proofs.Common.{◌≡◌, ◌≢◌, ℕ, zero, suc, ◌+◌, ◌<◌, List, [], ◌∷◌, length, refl, sym, ap, ◌∙◌, subst, ⊎_elim, arith, get_or-set_other, get_or-set_same}
 use Rattle.std.specs.Prelude.{slice_set, slice_index, slice_index_or, replicate}
 use Rattle.std.proofs.lemmas.Bool.Decides.{eqb_tells}
-use Rattle.c_model.specs.declared.flow.Edge.{Edge}
+use Rattle.own_flow.specs.declared.flow.Edge.{Edge}
 use Rattle.own_flow.specs.Chains.{edge_at, IsNext, ChainsFrom}
 
 set_len : (xs : List ℕ) (i v : ℕ) → length (slice_set xs i v) ≡ length xs

@@ -1,14 +1,14 @@
 -- What a search marks by an edge.
 use Rattle.std.proofs.Common.{◌≡◌, ℕ, Option, sym, ap, ◌∙◌, subst, ◌⊎◌, inl, inr, ⊎_elim}
-use Rattle.c_model.specs.declared.flow.State.{State}
-use Rattle.c_model.specs.declared.flow.State.TheVariants.{Uninitialised, Null, Live, Moved, Deleted}
-use Rattle.c_model.specs.declared.flow.States.{States}
-use Rattle.c_model.specs.declared.flow.Action.{Action}
-use Rattle.c_model.specs.declared.flow.Action.TheVariants as act
-use Rattle.c_model.specs.declared.flow.Edge.{Edge}
-use Rattle.c_model.specs.declared.flow.Fact.{Fact}
-use Rattle.c_model.specs.declared.flow.Fact.TheVariants.{Reached, Has}
-use Rattle.c_model.specs.PossibleState.{Gives, reach, set}
+use Rattle.own_flow.specs.declared.flow.State.{State}
+use Rattle.own_flow.specs.declared.flow.State.TheVariants.{Uninitialised, Null, Live, Moved, Deleted}
+use Rattle.own_flow.specs.declared.flow.States.{States}
+use Rattle.own_flow.specs.declared.flow.Action.{Action}
+use Rattle.own_flow.specs.declared.flow.Action.TheVariants as act
+use Rattle.own_flow.specs.declared.flow.Edge.{Edge}
+use Rattle.own_flow.specs.declared.flow.Fact.{Fact}
+use Rattle.own_flow.specs.declared.flow.Fact.TheVariants.{Reached, Has}
+use Rattle.own_flow.specs.PossibleState.{Gives, reach, set}
 use Rattle.own_flow.specs.Nodes.{node_number}
 use Rattle.own_flow.specs.Effects.{kept_of, copied_of}
 use Rattle.own_flow.specs.Exploration.{Search, Grew, Just, Maybe, OneState, EachState, SetBy, Made}

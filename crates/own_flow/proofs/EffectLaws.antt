@@ -2,14 +2,14 @@
 use Rattle.std.proofs.Common.{◌≡◌, ◌≢◌, ℕ, Bool, true, false, Option, Some, None, refl, sym, ap, ◌∙◌, subst, ◌⊎◌, inl, inr, ⊎_elim, ◌<◌}
 use Rattle.std.specs.Prelude.{◌==◌, ◌&&◌, not, if◌then◌else◌, IfSome}
 use Rattle.std.proofs.lemmas.Bool.Decides.{eqb_tells}
-use Rattle.c_model.specs.declared.flow.State.{State}
-use Rattle.c_model.specs.declared.flow.State.TheVariants.{Uninitialised, Null, Live, Moved, Deleted}
-use Rattle.c_model.specs.declared.flow.Action.{Action}
-use Rattle.c_model.specs.declared.flow.Action.TheVariants as act
-use Rattle.c_model.specs.declared.flow.Fact.{Fact}
-use Rattle.c_model.specs.declared.flow.Fact.TheVariants.{Reached, Has}
-use Rattle.c_model.specs.FlowGraph.{is_in, same_state, InPlaces}
-use Rattle.c_model.specs.PossibleState.{LeavesAlone, Gives, reach, set, copy, give, stay, pass, meet, keep}
+use Rattle.own_flow.specs.declared.flow.State.{State}
+use Rattle.own_flow.specs.declared.flow.State.TheVariants.{Uninitialised, Null, Live, Moved, Deleted}
+use Rattle.own_flow.specs.declared.flow.Action.{Action}
+use Rattle.own_flow.specs.declared.flow.Action.TheVariants as act
+use Rattle.own_flow.specs.declared.flow.Fact.{Fact}
+use Rattle.own_flow.specs.declared.flow.Fact.TheVariants.{Reached, Has}
+use Rattle.own_flow.specs.FlowGraph.{is_in, same_state, InPlaces}
+use Rattle.own_flow.specs.PossibleState.{LeavesAlone, Gives, reach, set, copy, give, stay, pass, meet, keep}
 use Rattle.own_flow.specs.Nodes.{FactFits}
 use Rattle.own_flow.specs.Effects.{kept_of, copied_of}
 

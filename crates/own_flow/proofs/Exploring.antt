@@ -1,11 +1,11 @@
 -- The loop of the search: what it keeps, and what it has done at its end.
 use Rattle.std.proofs.Common.{◌≡◌, ℕ, ◌+◌, ◌*◌, ◌<◌, ◌≤◌, false, List, [], ◌∷◌, ◌++◌, length, refl, sym, ap, ◌∙◌, subst, arith}
 use Rattle.std.specs.Prelude.{All, map, replicate}
-use Rattle.c_model.specs.declared.flow.Edge.{Edge}
-use Rattle.c_model.specs.declared.flow.Fact.{Fact}
-use Rattle.c_model.specs.declared.flow.Fact.TheVariants.{Reached}
-use Rattle.c_model.specs.FlowGraph.{Fits}
-use Rattle.c_model.specs.PossibleState.{Gives, Possible, start, along}
+use Rattle.own_flow.specs.declared.flow.Edge.{Edge}
+use Rattle.own_flow.specs.declared.flow.Fact.{Fact}
+use Rattle.own_flow.specs.declared.flow.Fact.TheVariants.{Reached}
+use Rattle.own_flow.specs.FlowGraph.{Fits}
+use Rattle.own_flow.specs.PossibleState.{Gives, Possible, start, along}
 use Rattle.own_flow.specs.declared.nodes.Node.{Node}
 use Rattle.own_flow.specs.Chains.{edge_at, no_edge}
 use Rattle.own_flow.specs.Nodes.{node_number, row_width, NodeFits}

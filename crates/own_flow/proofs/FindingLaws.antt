@@ -4,11 +4,11 @@ use Rattle.std.specs.Prelude.{All, IfSome}
 use Rattle.std.specs.List.Sorted.{IsStrictlySortedBy}
 use Rattle.std.proofs.lemmas.Bool.Decides.{eqb_tells}
 use Rattle.cake_base.specs.declared.rules.Fault.{Fault}
-use Rattle.c_model.specs.declared.flow.Action.TheVariants.{Need}
-use Rattle.c_model.specs.declared.flow.Edge.{Edge}
-use Rattle.c_model.specs.declared.flow.Fact.TheVariants.{Has}
-use Rattle.c_model.specs.FlowGraph.{Fits, InPlaces}
-use Rattle.c_model.specs.Findings.{IsFinding, AreFindings}
+use Rattle.own_flow.specs.declared.flow.Action.TheVariants.{Need}
+use Rattle.own_flow.specs.declared.flow.Edge.{Edge}
+use Rattle.own_flow.specs.declared.flow.Fact.TheVariants.{Has}
+use Rattle.own_flow.specs.FlowGraph.{Fits, InPlaces}
+use Rattle.own_flow.specs.Findings.{IsFinding, AreFindings}
 use Rattle.own_flow.specs.declared.ranks.Ranked.{Ranked}
 use Rattle.own_flow.specs.contracts.ranks.RankedOrd.TheImpl.{ghosts}
 use Rattle.own_flow.specs.Ranks.{ranked, fault_of}

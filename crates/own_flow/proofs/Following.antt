@@ -2,9 +2,9 @@
 use Rattle.std.proofs.Common.{◌≡◌, ℕ, zero, suc, ◌+◌, ◌<◌, ◌≤◌, false, List, length, refl, sym, ap, ◌∙◌, subst, ◌⊎◌, inl, inr, ⊎_elim, arith}
 use Rattle.std.specs.Prelude.{◌==◌, cond}
 use Rattle.std.proofs.lemmas.Bool.Decides.{eqb_tells}
-use Rattle.c_model.specs.declared.flow.Edge.{Edge}
-use Rattle.c_model.specs.declared.flow.Fact.{Fact}
-use Rattle.c_model.specs.declared.flow.Fact.TheVariants.{Reached, Has}
+use Rattle.own_flow.specs.declared.flow.Edge.{Edge}
+use Rattle.own_flow.specs.declared.flow.Fact.{Fact}
+use Rattle.own_flow.specs.declared.flow.Fact.TheVariants.{Reached, Has}
 use Rattle.own_flow.specs.declared.nodes.Node.{Node}
 use Rattle.own_flow.specs.Chains.{edge_at, IsNext}
 use Rattle.own_flow.specs.Exploration.{Search, Grew, Made, MadeBelow, MadeOf, degree, step_cost}

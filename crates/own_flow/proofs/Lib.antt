@@ -1,3 +1,4 @@
+pub mod OneFindings
 pub mod BitLaws
 pub mod ChainLaws
 pub mod NodeLaws

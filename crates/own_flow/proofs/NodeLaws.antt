@@ -2,10 +2,10 @@
 use Rattle.std.proofs.Common.{◌≡◌, ℕ, zero, suc, ◌+◌, ◌*◌, ◌<◌, ◌≤◌, ◌/◌, ◌%◌, refl, sym, ap, ◌∙◌, arith}
 use Rattle.std.proofs.lemmas.Nat.{div-mul-add, mod-mul-add}
 use Rattle.std.proofs.Math.Nat.{mul-le-mul_right}
-use Rattle.c_model.specs.declared.flow.State.{State}
-use Rattle.c_model.specs.declared.flow.State.TheVariants.{Uninitialised, Null, Live, Moved, Deleted}
-use Rattle.c_model.specs.declared.flow.Fact.{Fact}
-use Rattle.c_model.specs.declared.flow.Fact.TheVariants.{Reached, Has}
+use Rattle.own_flow.specs.declared.flow.State.{State}
+use Rattle.own_flow.specs.declared.flow.State.TheVariants.{Uninitialised, Null, Live, Moved, Deleted}
+use Rattle.own_flow.specs.declared.flow.Fact.{Fact}
+use Rattle.own_flow.specs.declared.flow.Fact.TheVariants.{Reached, Has}
 use Rattle.own_flow.specs.declared.nodes.Node.{Node}
 use Rattle.own_flow.specs.Nodes.{state_number, fact_number, row_width, node_number, FactFits, NodeFits}
 

@@ -7,7 +7,7 @@ use Rattle.std.specs.Cmp.{ranks}
 use Rattle.cake_base.specs.declared.rules.Family.{Family}
 use Rattle.cake_base.specs.declared.rules.Family.TheVariants as family
 use Rattle.cake_base.specs.declared.rules.Fault.{Fault}
-use Rattle.c_model.specs.Findings.{family_rank, Precedes}
+use Rattle.own_flow.specs.Findings.{family_rank, Precedes}
 use Rattle.own_flow.specs.declared.ranks.FamilyRank.{FamilyRank}
 use Rattle.own_flow.specs.declared.ranks.FamilyRank.TheVariants as rank
 use Rattle.own_flow.specs.declared.ranks.Ranked.{Ranked}

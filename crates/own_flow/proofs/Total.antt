@@ -3,9 +3,9 @@ use Rattle.std.proofs.Common.{◌≡◌, ℕ, zero, suc, ◌+◌, ◌*◌, ◌<�
 use Rattle.std.specs.Prelude.{cond, ◌==◌}
 use Rattle.std.proofs.lemmas.Bool.Decides.{eqb_tells}
 use Rattle.std.proofs.lemmas.Nat.{div-mul-add, mod-mul-add}
-use Rattle.c_model.specs.declared.flow.Edge.{Edge}
-use Rattle.c_model.specs.declared.flow.Fact.{Fact}
-use Rattle.c_model.specs.declared.flow.Fact.TheVariants.{Reached, Has}
+use Rattle.own_flow.specs.declared.flow.Edge.{Edge}
+use Rattle.own_flow.specs.declared.flow.Fact.{Fact}
+use Rattle.own_flow.specs.declared.flow.Fact.TheVariants.{Reached, Has}
 use Rattle.own_flow.specs.declared.nodes.Node.{Node}
 use Rattle.own_flow.specs.Chains.{edge_at}
 use Rattle.own_flow.specs.Nodes.{node_number, row_width, NodeFits, fact_number, state_number}

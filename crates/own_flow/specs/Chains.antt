@@ -1,7 +1,7 @@
 -- Chains of the edges that begin at one point.
 use Rattle.std.specs.Prelude.{◌≡◌, ℕ, ◌+◌, ◌<◌, ◌≤◌, List, length, slice_index_or, slice_index}
-use Rattle.c_model.specs.declared.flow.Edge.{Edge}
-use Rattle.c_model.specs.declared.flow.Action.TheVariants.{Pass}
+use Rattle.own_flow.specs.declared.flow.Edge.{Edge}
+use Rattle.own_flow.specs.declared.flow.Action.TheVariants.{Pass}
 use Rattle.own_flow.specs.declared.rows.Chains.{Chains}
 
 abbrev pub no_edge : Edge

@@ -1,12 +1,12 @@
 -- What an action makes of one state of one place, computed: at most two facts.
 use Rattle.std.specs.Prelude.{ℕ, ◌==◌, ◌&&◌, not, Option, Some, None, if◌then◌else◌}
-use Rattle.c_model.specs.declared.flow.State.{State}
-use Rattle.c_model.specs.declared.flow.State.TheVariants.{Live}
-use Rattle.c_model.specs.declared.flow.Action.{Action}
-use Rattle.c_model.specs.declared.flow.Action.TheVariants as act
-use Rattle.c_model.specs.declared.flow.Fact.{Fact}
-use Rattle.c_model.specs.declared.flow.Fact.TheVariants.{Has}
-use Rattle.c_model.specs.FlowGraph.{is_in, same_state}
+use Rattle.own_flow.specs.declared.flow.State.{State}
+use Rattle.own_flow.specs.declared.flow.State.TheVariants.{Live}
+use Rattle.own_flow.specs.declared.flow.Action.{Action}
+use Rattle.own_flow.specs.declared.flow.Action.TheVariants as act
+use Rattle.own_flow.specs.declared.flow.Fact.{Fact}
+use Rattle.own_flow.specs.declared.flow.Fact.TheVariants.{Has}
+use Rattle.own_flow.specs.FlowGraph.{is_in, same_state}
 
 -- the fact with which the place x goes on
 abbrev pub kept_of : Action → ℕ → State → Option Fact

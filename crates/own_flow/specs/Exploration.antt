@@ -1,14 +1,14 @@
 -- What a search of a graph has marked, and what it marks by an edge and by all edges of a point.
 use Rattle.std.specs.Prelude.{◌≡◌, ℕ, zero, suc, ◌+◌, ◌*◌, ◌^◌, ◌<◌, Bool, true, cond, ◌==◌, List, length, map, All, Option, Some}
-use Rattle.c_model.specs.declared.flow.State.{State}
-use Rattle.c_model.specs.declared.flow.States.{States}
-use Rattle.c_model.specs.declared.flow.Action.{Action}
-use Rattle.c_model.specs.declared.flow.Action.TheVariants as act
-use Rattle.c_model.specs.declared.flow.Edge.{Edge}
-use Rattle.c_model.specs.declared.flow.Fact.{Fact}
-use Rattle.c_model.specs.declared.flow.Fact.TheVariants.{Reached, Has}
-use Rattle.c_model.specs.FlowGraph.{is_in}
-use Rattle.c_model.specs.PossibleState.{Gives, Possible}
+use Rattle.own_flow.specs.declared.flow.State.{State}
+use Rattle.own_flow.specs.declared.flow.States.{States}
+use Rattle.own_flow.specs.declared.flow.Action.{Action}
+use Rattle.own_flow.specs.declared.flow.Action.TheVariants as act
+use Rattle.own_flow.specs.declared.flow.Edge.{Edge}
+use Rattle.own_flow.specs.declared.flow.Fact.{Fact}
+use Rattle.own_flow.specs.declared.flow.Fact.TheVariants.{Reached, Has}
+use Rattle.own_flow.specs.FlowGraph.{is_in}
+use Rattle.own_flow.specs.PossibleState.{Gives, Possible}
 use Rattle.cake_base.specs.declared.rules.Fault.{Fault}
 use Rattle.own_flow.specs.declared.nodes.Node.{Node}
 use Rattle.own_flow.specs.Nodes.{node_number, row_width, NodeFits}

@@ -1,3 +1,6 @@
+pub mod FlowGraph
+pub mod PossibleState
+pub mod Findings
 pub mod Words
 pub mod Chains
 pub mod Nodes

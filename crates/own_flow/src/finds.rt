@@ -1,21 +1,21 @@
 //! The findings of a graph.
 ghost use Rattle.std.specs.Prelude.{◌≡◌, ◌+◌, ◌*◌, ◌<◌, ◌≤◌, ◌⊎◌, ◌↔◌, length, map, All, Contains, IfOk, IfSome, OnOk, IsTrue, Some};
 ghost use Rattle.cake_base.specs.declared.rules.Fault.{Fault};
-ghost use Rattle.c_model.specs.FlowGraph.{Fits};
-ghost use Rattle.c_model.specs.Findings.{AreFindings};
-ghost use Rattle.c_model.specs.declared.flow.State.{State};
-ghost use Rattle.c_model.specs.declared.flow.Fact.TheVariants.{Has};
+ghost use Rattle.own_flow.specs.FlowGraph.{Fits};
+ghost use Rattle.own_flow.specs.Findings.{AreFindings};
+ghost use Rattle.own_flow.specs.declared.flow.State.{State};
+ghost use Rattle.own_flow.specs.declared.flow.Fact.TheVariants.{Has};
 ghost use Rattle.own_flow.specs.declared.ranks.Ranked.{Ranked};
 ghost use Rattle.own_flow.specs.Ranks.{fault_of};
 ghost use Rattle.own_flow.specs.Exploration.{HasState, Breaks, BreaksBelow};
 
 use crate::counter::Steps;
+use crate::flow::{Action, Edge, Fact, State, States};
 use crate::graph::FlowGraph;
 use crate::list::Findings;
 use crate::nodes::Node;
 use crate::ranks::{Ranked, put_in_order};
 use crate::search::{Search, explore};
-use c_model::flow::{Action, Edge, Fact, State, States};
 use cake_base::{Fault, NoMemory};
 use std::alloc::Global;
 use std::sync::ledger::Ledger;

@@ -1,8 +1,8 @@
 //! The graph that a caller builds, point by point and edge by edge.
 ghost use Rattle.std.specs.Prelude.{◌≡◌, ◌+◌, ◌<◌, ◌≤◌, [], ◌∷◌, ◌++◌, All, IfOk, OnOk, OnErr};
-ghost use Rattle.c_model.specs.FlowGraph.{Fits};
+ghost use Rattle.own_flow.specs.FlowGraph.{Fits};
 
-use c_model::flow::{Action, Edge};
+use crate::flow::{Action, Edge};
 use cake_base::NoMemory;
 use std::alloc::Global;
 use std::marker::Model;
@@ -17,7 +17,7 @@ pub struct FlowGraph {
 
 impl Model for FlowGraph {
     ghost use Rattle.std.specs.Prelude.{◌<◌, All};
-    ghost use Rattle.c_model.specs.FlowGraph.{Graph, Fits};
+    ghost use Rattle.own_flow.specs.FlowGraph.{Graph, Fits};
 
     ghost Value = { Graph };
 

@@ -4,6 +4,7 @@
 
 mod counter;
 mod finds;
+pub mod flow;
 mod graph;
 mod list;
 mod nodes;
@@ -11,11 +12,9 @@ mod ranks;
 mod rows;
 mod search;
 mod table;
-#[cfg(test)]
-mod tests;
 
-pub use c_model::flow::{Action, State, States};
 pub use counter::Steps;
 pub use finds::solve;
+pub use flow::{Action, State, States};
 pub use graph::FlowGraph;
 pub use list::Findings;

@@ -1,11 +1,11 @@
 //! Facts at points, and what an action makes of a fact.
 ghost use Rattle.std.specs.Prelude.{◌≡◌, ◌+◌, ◌*◌, ◌^◌, ◌<◌};
-ghost use Rattle.c_model.specs.FlowGraph.{same_state};
-ghost use Rattle.c_model.specs.declared.flow.State.TheVariants.{Live};
+ghost use Rattle.own_flow.specs.FlowGraph.{same_state};
+ghost use Rattle.own_flow.specs.declared.flow.State.TheVariants.{Live};
 ghost use Rattle.own_flow.specs.Nodes.{state_number, fact_number, node_number, row_width, NodeFits};
 ghost use Rattle.own_flow.specs.Effects.{kept_of, copied_of};
 
-use c_model::flow::{Action, Fact, State};
+use crate::flow::{Action, Fact, State};
 
 /// A fact at a point.
 #[derive(Clone, Copy)]

@@ -2,7 +2,7 @@
 ghost use Rattle.std.specs.Prelude.{◌<◌, All, IfOk};
 ghost use Rattle.own_flow.specs.Chains.{AreChains};
 
-use c_model::flow::Edge;
+use crate::flow::Edge;
 use cake_base::NoMemory;
 use std::alloc::Global;
 

@@ -1,17 +1,17 @@
 //! The worklist: what is possible at each point, each fact followed once.
 ghost use Rattle.std.specs.Prelude.{◌≡◌, ◌+◌, ◌*◌, ◌<◌, ◌≤◌, [], ◌∷◌, ◌++◌, length, false, replicate, All, IfOk, OnOk, IfSome, IfNone, Some, slice_get};
-ghost use Rattle.c_model.specs.FlowGraph.{Fits, InPlaces};
-ghost use Rattle.c_model.specs.declared.flow.Fact.TheVariants.{Reached, Has};
+ghost use Rattle.own_flow.specs.FlowGraph.{Fits, InPlaces};
+ghost use Rattle.own_flow.specs.declared.flow.Fact.TheVariants.{Reached, Has};
 ghost use Rattle.own_flow.specs.Chains.{AreChains};
 ghost use Rattle.own_flow.specs.Nodes.{NodeFits, FactFits, row_width, node_number};
 ghost use Rattle.own_flow.specs.Exploration.{Grew, Just, Maybe, OneState, EachState, SetBy, Made, MadeOf, IsExplored, degree, step_cost};
 
 use crate::counter::Steps;
+use crate::flow::{Action, Edge, Fact, State, States};
 use crate::graph::FlowGraph;
 use crate::nodes::{Node, copied, kept};
 use crate::rows::Chains;
 use crate::table::BitTable;
-use c_model::flow::{Action, Edge, Fact, State, States};
 use cake_base::NoMemory;
 use std::alloc::Global;
 use std::marker::Model;

@@ -1,19 +1,20 @@
 -- Steps along a line.
-use Rattle.std.proofs.Common.{◌≡◌, ℕ, zero, suc, ◌+◌, ◌≤◌, Bool, true, false, ◌&&◌, ◌||◌, is_some, List, [], ◌∷◌, ◌++◌, length, drop, slice_get, Option, Some, None, Result, Ok, Err, refl, sym, ap, ◌∙◌, arith, add-one, append_assoc, append-nil, cond}
+use Rattle.std.proofs.Common.{◌≡◌, ℕ, zero, suc, ◌+◌, ◌≤◌, Bool, true, false, ◌&&◌, ◌||◌, is_some, List, [], ◌∷◌, ◌++◌, length, drop, slice_get, Option, Some, None, Result, Ok, Err, refl, sym, ap, ◌∙◌, add-one, append_assoc, append-nil, cond}
 use Rattle.std.specs.Borrow.{Bor}
 use Rattle.std.specs.Option.{option_copied}
 use Rattle.std.proofs.lemmas.List.{drop-drop, drop_all}
-use Rattle.c_model.specs.declared.conditions.ConditionRule.{ConditionRule}
-use Rattle.c_model.specs.declared.conditions.ConditionRule.TheVariants.{Malformed, LeftOut}
-use Rattle.c_model.specs.declared.conditions.ConditionToken.{ConditionToken}
-use Rattle.c_model.specs.PpTokens.{PpToken}
-use Rattle.c_model.specs.Macros.{Macro, same_text, spells, found, defines}
-use Rattle.c_model.specs.ReplacementLists.{LEFT, RIGHT}
-use Rattle.c_model.specs.MacroDefinitions.{is_name}
-use Rattle.c_model.specs.Defined.{DEFINED, is_left_out, Asked, in_parentheses, operand, told, before_line, answered, answered_from}
-use Rattle.c_model.specs.ConditionTokens.{of_part, before_part, condition_tokens}
+use Rattle.model_conditions.specs.declared.conditions.ConditionRule.{ConditionRule}
+use Rattle.model_conditions.specs.declared.conditions.ConditionRule.TheVariants.{Malformed, LeftOut}
+use Rattle.model_conditions.specs.declared.conditions.ConditionToken.{ConditionToken}
+use Rattle.model_tokens.specs.PpTokens.{PpToken}
+use Rattle.model_macros.specs.Macros.{Macro, spells, found, defines}
+use Rattle.model_macros.specs.ReplacementLists.{LEFT, RIGHT}
+use Rattle.model_macros.specs.MacroDefinitions.{is_name}
+use Rattle.model_conditions.specs.Defined.{DEFINED, is_left_out, Asked, in_parentheses, operand, told, before_line, answered, answered_from}
+use Rattle.model_conditions.specs.ConditionTokens.{of_part, before_part, condition_tokens}
 use Rattle.pp_conditions.specs.Lines.{answered_at, with_front, Follows}
 use Rattle.pp_conditions.specs.Listed.{with_tokens, Grows}
+use Rattle.model_types.specs.Texts.{same_text}
 
 drop_suc : {T : Type 0} (xs : List T) (n : ℕ) (x : T) → slice_get xs n ≡ Some x → drop n xs ≡ x ∷ drop (suc n) xs
 drop_suc [] n x = λ h. cc
@@ -162,10 +163,6 @@ passes macros line at out h =
     ap (λ (z : List PpToken). with_front out (answered_from macros 0 z))
     (sym (drop-drop 1 at line) ∙ ap (drop 1) (drop_none line at h) ∙ sym (drop_none line at h))
 
-pub no_front : (r : Result (List PpToken) ConditionRule) → with_front [] r ≡ r
-no_front (Ok ts) = refl
-no_front (Err rule) = refl
-
 pub ended : (macros : List (List ℕ × Macro)) (line : List PpToken) (at : ℕ) (out : List PpToken) → length line ≤ at → with_front out (answered_at macros line at) ≡ Ok out
 ended macros line at out h = ap (λ (z : List PpToken). with_front out (answered_from macros 0 z)) (drop_all at line h) ∙ ap Ok (append-nil out)
 
@@ -185,10 +182,3 @@ pub no_part : (line : List PpToken) (at : ℕ) (t : PpToken) (rule : ConditionRu
     of_part t.kind t ≡ Err rule → condition_tokens (drop at line) ≡ Err rule
 no_part line at t rule h p =
     ap condition_tokens (drop_at line at t h) ∙ ap (λ x. before_part x (condition_tokens (drop (at + 1) line))) p
-
-pub no_tokens : (r : Result (List ConditionToken) ConditionRule) → with_tokens [] r ≡ r
-no_tokens (Ok ts) = refl
-no_tokens (Err rule) = refl
-
-pub all_parts : (line : List PpToken) (at : ℕ) (out : List ConditionToken) → length line ≤ at → with_tokens out (condition_tokens (drop at line)) ≡ Ok out
-all_parts line at out h = ap (λ (z : List PpToken). with_tokens out (condition_tokens z)) (drop_all at line h) ∙ ap Ok (append-nil out)

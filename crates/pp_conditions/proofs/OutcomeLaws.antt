@@ -1,18 +1,18 @@
 -- What becomes of a line, from what becomes of its parts.
 use Rattle.std.proofs.Common.{◌≡◌, ℕ, Bool, List, map, Result, Ok, Err, sym, ap, ◌∙◌, subst, refl}
 use Rattle.cake_base.specs.declared.places.Place.{Place}
-use Rattle.c_model.specs.declared.conditions.ConditionRule.{ConditionRule}
-use Rattle.c_model.specs.declared.conditions.ConditionToken.{ConditionToken}
-use Rattle.c_model.specs.PpTokens.{PpToken}
-use Rattle.c_model.specs.Macros.{Macros}
-use Rattle.c_model.specs.Pasting.{fresh}
-use Rattle.c_model.specs.Expansion.{broken, passed}
-use Rattle.c_model.specs.ExpansionFunction.{expand}
-use Rattle.c_model.specs.Defined.{defined_answered}
-use Rattle.c_model.specs.ConditionTokens.{condition_tokens}
-use Rattle.c_model.specs.Conditions.{condition, outcome, breaks, of_tokens, of_replaced, of_answered}
-use Rattle.pp_macros.specs.declared.errors.MacroError.{MacroError}
-use Rattle.pp_macros.specs.declared.errors.MacroError.TheVariants as macro_error
+use Rattle.model_conditions.specs.declared.conditions.ConditionRule.{ConditionRule}
+use Rattle.model_conditions.specs.declared.conditions.ConditionToken.{ConditionToken}
+use Rattle.model_tokens.specs.PpTokens.{PpToken}
+use Rattle.model_macros.specs.Macros.{Macros}
+use Rattle.model_macros.specs.Pasting.{fresh}
+use Rattle.model_macros.specs.Expansion.{broken, passed}
+use Rattle.model_macros.specs.ExpansionFunction.{expand}
+use Rattle.model_conditions.specs.Defined.{defined_answered}
+use Rattle.model_conditions.specs.ConditionTokens.{condition_tokens}
+use Rattle.model_conditions.specs.Conditions.{condition, outcome, breaks, of_tokens, of_replaced, of_answered}
+use Rattle.pp_definitions.specs.declared.errors.MacroError.{MacroError}
+use Rattle.pp_definitions.specs.declared.errors.MacroError.TheVariants as macro_error
 use Rattle.pp_macros.specs.Machine.{Expanded}
 use Rattle.pp_conditions.specs.declared.errors.Refusal.{Refusal}
 use Rattle.pp_conditions.specs.declared.errors.Refusal.TheVariants as refusal

@@ -2,14 +2,14 @@
 use Rattle.std.proofs.Common.{◌≡◌, ℕ, ◌^◌, ℤ, pos, neg_ℤ, ◌≤ℤ◌, ◌<ℤ◌, Bool, true, false, ◌||◌, ◌&&◌, not, IsTrue, to_z, of_z, Option, Some, None, MatchOption, refl, sym, ap, ◌∙◌, subst, arith, cond}
 use Rattle.std.proofs.lemmas.Int.{ints, to_z-of_z}
 use Rattle.std.specs.Int.{w128}
-use Rattle.c_model.specs.declared.numbers.Basic.{Basic}
-use Rattle.c_model.specs.declared.numbers.Basic.TheVariants.{Int, Long, UnsignedLong}
-use Rattle.c_model.specs.declared.numbers.BinOp.{BinOp}
-use Rattle.c_model.specs.declared.numbers.Const.{Const}
-use Rattle.c_model.specs.declared.conditions.Infix.TheVariants.{Integer}
-use Rattle.c_model.specs.Operations.{fits, is_signed}
-use Rattle.c_model.specs.Conversions.{promoted, common, is_shift, is_comparison, operand_type, result_type, calculated, converted_operation}
-use Rattle.c_model.specs.ConditionValues.{Valued, wide, operated_unsigned, if_defined, operated, of_binary}
+use Rattle.model_types.specs.declared.numbers.Basic.{Basic}
+use Rattle.model_types.specs.declared.numbers.Basic.TheVariants.{Int, Long, UnsignedLong}
+use Rattle.model_types.specs.declared.numbers.BinOp.{BinOp}
+use Rattle.model_types.specs.declared.numbers.Const.{Const}
+use Rattle.model_conditions.specs.declared.conditions.Infix.TheVariants.{Integer}
+use Rattle.model_types.specs.Operations.{fits, is_signed}
+use Rattle.model_types.specs.Conversions.{promoted, common, is_shift, is_comparison, operand_type, result_type, calculated, converted_operation}
+use Rattle.model_conditions.specs.ConditionValues.{Valued, wide, operated_unsigned, if_defined, operated, of_binary}
 use Rattle.pp_conditions.specs.Parts.{Fitting}
 
 -- values of 64 bits, signed or unsigned

@@ -1,11 +1,11 @@
 -- Reading a condition, token by token.
 use Rattle.std.proofs.Common.{◌≡◌, ℕ, ◌≤◌, Bool, List, ◌∷◌, length, drop, Some, None, Err, refl, sym, ap, ◌∙◌}
 use Rattle.std.proofs.lemmas.List.{drop_all}
-use Rattle.c_model.specs.declared.conditions.ConditionRule.TheVariants.{Malformed}
-use Rattle.c_model.specs.declared.conditions.ConditionToken.{ConditionToken}
-use Rattle.c_model.specs.ConditionReader.{read, read_from, next, ended}
-use Rattle.c_model.specs.ConditionReading.{computed, concluded, Judged-read}
-use Rattle.c_model.specs.Conditions.{judged, judged-only}
+use Rattle.model_conditions.specs.declared.conditions.ConditionRule.TheVariants.{Malformed}
+use Rattle.model_conditions.specs.declared.conditions.ConditionToken.{ConditionToken}
+use Rattle.model_conditions.specs.apparatus.ConditionReader.{read, read_from, next, ended}
+use Rattle.model_conditions.specs.ConditionReading.{computed, concluded, Judged-read}
+use Rattle.model_conditions.specs.Conditions.{judged, judged-only}
 use Rattle.pp_conditions.specs.declared.reader.Reading.{Reading}
 use Rattle.pp_conditions.specs.declared.errors.Refusal.{Refusal}
 use Rattle.pp_conditions.specs.declared.errors.Refusal.TheVariants as refusal

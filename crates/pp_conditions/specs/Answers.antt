@@ -1,17 +1,17 @@
 -- What `evaluate` answers, in terms of the definition.
 use Rattle.std.specs.Prelude.{◌≡◌, ℕ, Bool, List, Result, Ok, Err}
 use Rattle.cake_base.specs.declared.places.Place.{Place}
-use Rattle.c_model.specs.PpTokens.{PpToken}
-use Rattle.c_model.specs.Macros.{Macros}
-use Rattle.c_model.specs.Expansion.{broken, passed}
+use Rattle.model_tokens.specs.PpTokens.{PpToken}
+use Rattle.model_macros.specs.Macros.{Macros}
+use Rattle.model_macros.specs.Expansion.{broken, passed}
 use Rattle.cake_base.specs.declared.rules.Family.TheVariants.{P}
-use Rattle.c_model.specs.declared.conditions.ConditionToken.{ConditionToken}
-use Rattle.c_model.specs.Conditions.{condition, judged, rule_number}
-use Rattle.c_model.specs.declared.conditions.ConditionRule.{ConditionRule}
+use Rattle.model_conditions.specs.declared.conditions.ConditionToken.{ConditionToken}
+use Rattle.model_conditions.specs.Conditions.{condition, judged, rule_number}
+use Rattle.model_conditions.specs.declared.conditions.ConditionRule.{ConditionRule}
 use Rattle.pp_conditions.specs.declared.errors.Refusal.{Refusal}
 use Rattle.pp_conditions.specs.declared.errors.Refusal.TheVariants as refusal
-use Rattle.pp_macros.specs.declared.errors.MacroError.{MacroError}
-use Rattle.pp_macros.specs.declared.errors.MacroError.TheVariants as macro_error
+use Rattle.pp_definitions.specs.declared.errors.MacroError.{MacroError}
+use Rattle.pp_definitions.specs.declared.errors.MacroError.TheVariants as macro_error
 
 -- Whether the condition holds, or why that isn't said; `made` counts the tokens that replacement made,
 -- before and after.

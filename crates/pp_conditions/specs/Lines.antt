@@ -1,9 +1,9 @@
 -- How far a line is read, and what stands in front.
 use Rattle.std.specs.Prelude.{◌≡◌, ℕ, List, ◌++◌, drop, Result, Ok, Err}
-use Rattle.c_model.specs.declared.conditions.ConditionRule.{ConditionRule}
-use Rattle.c_model.specs.PpTokens.{PpToken}
-use Rattle.c_model.specs.Macros.{Macro}
-use Rattle.c_model.specs.Defined.{answered_from}
+use Rattle.model_conditions.specs.declared.conditions.ConditionRule.{ConditionRule}
+use Rattle.model_tokens.specs.PpTokens.{PpToken}
+use Rattle.model_macros.specs.Macros.{Macro}
+use Rattle.model_conditions.specs.Defined.{answered_from}
 
 -- what the line gives from a rank on
 abbrev pub answered_at : List (List ℕ × Macro) → List PpToken → ℕ → Result (List PpToken) ConditionRule

@@ -1,9 +1,9 @@
 -- Tokens of a condition that stand in front.
 use Rattle.std.specs.Prelude.{◌≡◌, ℕ, List, ◌++◌, ◌+◌, drop, Result, Ok, Err}
-use Rattle.c_model.specs.declared.conditions.ConditionRule.{ConditionRule}
-use Rattle.c_model.specs.declared.conditions.ConditionToken.{ConditionToken}
-use Rattle.c_model.specs.PpTokens.{PpToken}
-use Rattle.c_model.specs.ConditionTokens.{condition_tokens}
+use Rattle.model_conditions.specs.declared.conditions.ConditionRule.{ConditionRule}
+use Rattle.model_conditions.specs.declared.conditions.ConditionToken.{ConditionToken}
+use Rattle.model_tokens.specs.PpTokens.{PpToken}
+use Rattle.model_conditions.specs.ConditionTokens.{condition_tokens}
 
 -- tokens before those of the rest
 abbrev pub with_tokens : List ConditionToken → Result (List ConditionToken) ConditionRule → Result (List ConditionToken) ConditionRule

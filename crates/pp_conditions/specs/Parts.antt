@@ -1,7 +1,7 @@
 -- Values of parts of a condition, which lie in the range of their type.
 use Rattle.std.specs.Prelude.{Bool, IsTrue, ℤ, Option, Some, None}
-use Rattle.c_model.specs.Operations.{fits}
-use Rattle.c_model.specs.ConditionValues.{wide}
+use Rattle.model_types.specs.Operations.{fits}
+use Rattle.model_conditions.specs.ConditionValues.{wide}
 
 -- a value, if there is one, fits the type of 64 bits
 abbrev pub Fitting : (unsigned : Bool) → Option ℤ → Type 0

@@ -1,8 +1,8 @@
 -- A step of reading a condition.
 use Rattle.std.specs.Prelude.{◌≡◌, Option, Some, None, Result, Ok, Err}
-use Rattle.c_model.specs.declared.conditions.ConditionRule.TheVariants.{Malformed}
-use Rattle.c_model.specs.ConditionValues.{Valued}
-use Rattle.c_model.specs.ConditionReader as reader
+use Rattle.model_conditions.specs.declared.conditions.ConditionRule.TheVariants.{Malformed}
+use Rattle.model_conditions.specs.ConditionValues.{Valued}
+use Rattle.model_conditions.specs.apparatus.ConditionReader as reader
 use Rattle.pp_conditions.specs.declared.errors.Refusal.{Refusal}
 use Rattle.pp_conditions.specs.declared.errors.Refusal.TheVariants as refusal
 use Rattle.pp_conditions.specs.declared.reader.Reading.{Reading}

@@ -1,8 +1,8 @@
 -- Waiting parts, as the reader of conditions has them.
 use Rattle.std.specs.Prelude.{ℕ, Bool, true, false, nat_le, List, [], ◌∷◌, Option, Some, None}
-use Rattle.c_model.specs.ConditionGrammar.{kind_of}
-use Rattle.c_model.specs.ConditionValues.{Valued, of_unary, of_binary, of_choice}
-use Rattle.c_model.specs.ConditionReader as reader
+use Rattle.model_conditions.specs.ConditionGrammar.{kind_of}
+use Rattle.model_conditions.specs.ConditionValues.{Valued, of_unary, of_binary, of_choice}
+use Rattle.model_conditions.specs.apparatus.ConditionReader as reader
 use Rattle.pp_conditions.specs.declared.frames.Frame.{Frame}
 use Rattle.pp_conditions.specs.declared.frames.Frame.TheVariants.{Parenthesis, Prefix, Left, Question, Colon}
 

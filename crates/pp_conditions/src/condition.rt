@@ -1,16 +1,16 @@
 //! Whether a condition holds.
 ghost use Rattle.std.specs.Prelude.{◌≡◌};
-ghost use Rattle.c_model.specs.Conditions as spec;
-ghost use Rattle.c_model.specs.ConditionTokens.{condition_tokens as tokens_of};
+ghost use Rattle.model_conditions.specs.Conditions as spec;
+ghost use Rattle.model_conditions.specs.ConditionTokens.{condition_tokens as tokens_of};
 ghost use Rattle.pp_conditions.specs.Answers.{Evaluated, Gives, Stands, judgement};
 
 use crate::defined::defined_answered;
 use crate::errors::Refusal;
 use crate::reader::judge;
 use crate::tokens::condition_tokens;
-use c_model::conditions::ConditionRule;
 use c_tokens::PpList;
 use cake_base::{Family, Fault, Place, Rule};
+use model_conditions::conditions::ConditionRule;
 use pp_macros::{MacroError, MacroTable, Work, expand};
 use std::alloc::Global;
 

@@ -1,16 +1,16 @@
 //! The operator `defined`, which is answered before macros are replaced.
 ghost use Rattle.std.specs.Prelude.{◌≡◌, ◌<◌, ◌≤◌, ◌+◌, ◌^◌, true, drop, slice_get, IfOk, IfErr, IfSome, MatchOption, Some, None};
-ghost use Rattle.c_model.specs.Macros as macros;
-ghost use Rattle.c_model.specs.Defined as spec;
+ghost use Rattle.model_macros.specs.Macros as macros;
+ghost use Rattle.model_conditions.specs.Defined as spec;
 ghost use Rattle.pp_conditions.specs.Answers.{Gives, Refuses};
 ghost use Rattle.pp_conditions.specs.Lines.{Follows, answered_at};
 
 use crate::errors::Refusal;
-use crate::spelling::{is_left_out, is_name, spells};
-use c_model::conditions::ConditionRule;
+use crate::left_out::is_left_out;
 use c_tokens::{PpKind, PpList, PpTok};
 use cake_base::{Bytes, NoMemory};
-use pp_macros::MacroTable;
+use model_conditions::conditions::ConditionRule;
+use pp_macros::{MacroTable, is_name, spells};
 use std::alloc::Global;
 
 /// A name that `defined` asks for, and the number of tokens in which it stands.
@@ -67,8 +67,7 @@ fn operand<'a>(line: &'a PpList, at: usize) -> Option<Asked<'a>>
 fn told(alloc: Global, tok: &PpTok, is_defined: bool) -> Result<PpTok, NoMemory>
     ensures { IfOk result (λ t. t ≡ spec.told tok.now is_defined) }
 {
-    let mut text = Bytes::new(alloc);
-    text.push(if is_defined { b"1" } else { b"0" })?;
+    let text = Bytes::of(alloc, if is_defined { b"1" } else { b"0" })?;
     Ok(PpTok::new(PpKind::Number, tok.place, tok.first, tok.space, text))
 }
 

@@ -1,6 +1,6 @@
 //! Why no condition is read.
-use c_model::conditions::ConditionRule;
 use cake_base::NoMemory;
+use model_conditions::conditions::ConditionRule;
 
 /// The rule that a condition breaks, or the want of memory.
 #[derive(Debug, Drop)]

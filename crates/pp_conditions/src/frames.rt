@@ -1,18 +1,16 @@
 //! Parts of a condition that wait for an operand.
-ghost use Rattle.std.specs.Prelude.{◌≡◌, [], ◌∷◌, OnOk, MatchOption};
-ghost use Rattle.c_model.specs.ConditionGrammar as grammar;
-ghost use Rattle.c_model.specs.ConditionReader as reader;
-ghost use Rattle.c_model.specs.ConditionReading.{computed};
+ghost use Rattle.std.specs.Prelude.{◌≡◌};
+ghost use Rattle.model_conditions.specs.ConditionGrammar as grammar;
+ghost use Rattle.model_conditions.specs.apparatus.ConditionReader as reader;
+ghost use Rattle.model_conditions.specs.ConditionReading.{computed};
 ghost use Rattle.pp_conditions.specs.Shown as shown;
 
 use crate::operators::{binary, choice, unary};
 use crate::values::Part;
-use c_model::conditions::{Infix, Prefix};
-use c_model::numbers::BinOp;
-use c_model::operators::LogicOp;
-use cake_base::NoMemory;
-use std::alloc::Global;
-use std::marker::Model;
+use cake_base::Stack;
+use model_conditions::conditions::{Infix, Prefix};
+use model_types::numbers::BinOp;
+use model_types::operators::LogicOp;
 
 /// The kinds of expressions, from the loosest to the tightest (ISO/IEC 9899:2024, 6.5.6 to 6.5.16).
 pub const CONDITIONAL: u8 = 0;
@@ -78,53 +76,14 @@ pub enum Frame {
     Colon(Part, Part),
 }
 
-/// The waiting parts, of which the innermost is the last that the vector holds. Contracts see their
-/// list from the innermost one.
-#[derive(Drop)]
-pub struct Frames {
-    items: Vec<Frame>,
-}
-
-impl Model for Frames {
-    ghost use Rattle.std.specs.Prelude.{List, reverse};
-    ghost use Rattle.pp_conditions.specs.declared.frames.Frame.{Frame};
-
-    ghost Value = { List Frame };
-
-    ghost view = { λ f. reverse f.items.items };
-}
-
-impl Frames {
-    pub fn new(alloc: Global) -> Frames
-        ensures { result ≡ [] }
-    {
-        Frames {
-            items: Vec::new(alloc),
-        }
-    }
-
-    pub fn push(&mut self, frame: Frame) -> Result<(), NoMemory>
-        ensures { OnOk result (self.new ≡ frame ∷ self.old) }
-    {
-        self.items.push(frame)?;
-        Ok(())
-    }
-
-    pub fn pop(&mut self) -> Option<Frame>
-        ensures { MatchOption result ((self.old ≡ []) × (self.new ≡ [])) (λ frame. self.old ≡ frame ∷ self.new) }
-    {
-        self.items.pop()
-    }
-
-    /// Whether the innermost part is as tight as that kind of expression, so that an operand behind
-    /// which no tighter operator stands is its own.
-    pub fn is_tight(&self, kind: u8) -> bool
-        ensures { result ≡ shown.is_tight kind self.now }
-    {
-        match self.items.last() {
-            None => false,
-            Some(frame) => is_tight(frame, kind),
-        }
+/// Whether the innermost waiting part is as tight as that kind of expression, so that an operand behind
+/// which no tighter operator stands is its own.
+fn takes_operand(frames: &Stack<Frame>, kind: u8) -> bool
+    ensures { result ≡ shown.is_tight kind frames.now }
+{
+    match frames.top() {
+        None => false,
+        Some(frame) => is_tight(frame, kind),
     }
 }
 
@@ -154,11 +113,11 @@ fn put(frame: Frame, operand: Part) -> Part
 }
 
 /// The operand put into the innermost parts that are as tight as that kind of expression.
-pub fn fill(frames: &mut Frames, operand: Part, kind: u8) -> Part
+pub fn fill(frames: &mut Stack<Frame>, operand: Part, kind: u8) -> Part
     ensures { reader.filled computed kind (shown.all frames.old) operand ≡ record { frames = shown.all frames.new; operand = result } }
 {
     let mut filled = operand;
-    while frames.is_tight(kind) {
+    while takes_operand(frames, kind) {
         let Some(frame) = frames.pop() else {
             return filled;
         };

@@ -6,14 +6,11 @@ mod condition;
 mod defined;
 mod errors;
 mod frames;
+mod left_out;
 mod operators;
 mod reader;
 mod signs;
-mod spelling;
 mod tokens;
 mod values;
 
 pub use condition::evaluate;
-
-#[cfg(test)]
-mod tests;

@@ -1,19 +1,19 @@
 //! The operators of conditions (ISO/IEC 9899:2024, 6.5.4.3 to 6.5.16), on parts that may be undefined.
 ghost use Rattle.std.specs.Prelude.{◌≡◌, ◌&&◌, not, ◌-ℤ◌, ◌≤ℤ◌, ◌<ℤ◌, pos, neg_ℤ, ◌^◌, false, true, IsTrue, Some, None, MatchOption};
-ghost use Rattle.c_model.specs.ConditionValues as spec;
-ghost use Rattle.c_model.specs.Conversions as conversions;
-ghost use Rattle.c_model.specs.Operations as operations;
-ghost use Rattle.c_model.specs.declared.conditions.Prefix.TheVariants as sign;
-ghost use Rattle.c_model.specs.declared.conditions.Infix.TheVariants as operator;
-ghost use Rattle.c_model.specs.declared.operators.LogicOp.TheVariants as logic;
+ghost use Rattle.model_conditions.specs.ConditionValues as spec;
+ghost use Rattle.model_types.specs.Conversions as conversions;
+ghost use Rattle.model_types.specs.Operations as operations;
+ghost use Rattle.model_conditions.specs.declared.conditions.Prefix.TheVariants as sign;
+ghost use Rattle.model_conditions.specs.declared.conditions.Infix.TheVariants as operator;
+ghost use Rattle.model_types.specs.declared.operators.LogicOp.TheVariants as logic;
 ghost use Rattle.pp_conditions.specs.Parts.{Fitting};
 
 use crate::values::{Part, typed, wide};
-use c_model::conditions::{Infix, Prefix};
-use c_model::operators::LogicOp;
 use c_types::{
     Basic, BinOp, Const, const_op, convert, fits, is_comparison, is_signed, operand_type,
 };
+use model_conditions::conditions::{Infix, Prefix};
+use model_types::operators::LogicOp;
 
 /// 1 for what is true, else 0.
 fn truth(holds: bool) -> i128

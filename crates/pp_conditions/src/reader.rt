@@ -1,28 +1,29 @@
 //! Reads a condition from its tokens, and computes it as it reads.
 ghost use Rattle.std.specs.Prelude.{◌≡◌, Some};
-ghost use Rattle.c_model.specs.declared.conditions.ConditionToken.TheVariants as token;
-ghost use Rattle.c_model.specs.ConditionValues as values;
-ghost use Rattle.c_model.specs.ConditionReader as reader;
-ghost use Rattle.c_model.specs.ConditionReading.{computed, concluded};
-ghost use Rattle.c_model.specs.Conditions.{judged};
-ghost use Rattle.c_model.specs.declared.conditions.ConditionRule.TheVariants as condition_rule;
+ghost use Rattle.model_conditions.specs.declared.conditions.ConditionToken.TheVariants as token;
+ghost use Rattle.model_conditions.specs.ConditionValues as values;
+ghost use Rattle.model_conditions.specs.apparatus.ConditionReader as reader;
+ghost use Rattle.model_conditions.specs.ConditionReading.{computed, concluded};
+ghost use Rattle.model_conditions.specs.Conditions.{judged};
+ghost use Rattle.model_conditions.specs.declared.conditions.ConditionRule.TheVariants as condition_rule;
 ghost use Rattle.pp_conditions.specs.declared.errors.Refusal.TheVariants as refusal;
 ghost use Rattle.pp_conditions.specs.Answers.{Gives};
 ghost use Rattle.pp_conditions.specs.Shown as shown;
 ghost use Rattle.pp_conditions.specs.Progress.{Goes};
 
 use crate::errors::Refusal;
-use crate::frames::{CONDITIONAL, Frame, Frames, LOGICAL_OR, fill, kind_of};
+use crate::frames::{CONDITIONAL, Frame, LOGICAL_OR, fill, kind_of};
 use crate::operators::is_nonzero;
 use crate::values::Part;
-use c_model::conditions::{ConditionRule, ConditionToken, Infix, Prefix};
-use c_model::numbers::BinOp;
+use cake_base::Stack;
+use model_conditions::conditions::{ConditionRule, ConditionToken, Infix, Prefix};
+use model_types::numbers::BinOp;
 use std::alloc::Global;
 
 /// The parts that wait, and the operand behind which reading stands; none where one has to come.
 #[derive(Drop)]
 pub struct Reading {
-    frames: Frames,
+    frames: Stack<Frame>,
     operand: Option<Part>,
 }
 
@@ -34,7 +35,7 @@ fn misplaced() -> Refusal
 }
 
 /// One more part that waits.
-fn waiting(frames: Frames, frame: Frame) -> Result<Reading, Refusal>
+fn waiting(frames: Stack<Frame>, frame: Frame) -> Result<Reading, Refusal>
     ensures { Goes (reader.waiting (shown.one frame) (shown.all frames)) result }
 {
     let mut frames = frames;
@@ -45,7 +46,7 @@ fn waiting(frames: Frames, frame: Frame) -> Result<Reading, Refusal>
     })
 }
 
-fn standing(frames: Frames, operand: Part) -> Reading
+fn standing(frames: Stack<Frame>, operand: Part) -> Reading
     ensures { result ≡ record { frames = frames; operand = Some operand } }
 {
     Reading {
@@ -55,7 +56,7 @@ fn standing(frames: Frames, operand: Part) -> Reading
 }
 
 /// `+` or `-` where an operand has to come.
-fn signed(frames: Frames, op: Infix) -> Result<Reading, Refusal>
+fn signed(frames: Stack<Frame>, op: Infix) -> Result<Reading, Refusal>
     ensures { Goes (reader.signed op (shown.all frames)) result }
 {
     match op {
@@ -66,7 +67,7 @@ fn signed(frames: Frames, op: Infix) -> Result<Reading, Refusal>
 }
 
 /// A token where an operand has to come.
-fn begun(frames: Frames, token: ConditionToken) -> Result<Reading, Refusal>
+fn begun(frames: Stack<Frame>, token: ConditionToken) -> Result<Reading, Refusal>
     ensures { Goes (reader.begun computed (shown.all frames) token) result }
 {
     match token {
@@ -82,7 +83,7 @@ fn begun(frames: Frames, token: ConditionToken) -> Result<Reading, Refusal>
 }
 
 /// A binary operator behind an operand.
-fn operator(frames: Frames, operand: Part, op: Infix) -> Result<Reading, Refusal>
+fn operator(frames: Stack<Frame>, operand: Part, op: Infix) -> Result<Reading, Refusal>
     ensures { Goes (reader.continued computed (shown.all frames) operand (token.Operator op)) result }
 {
     let mut frames = frames;
@@ -91,7 +92,7 @@ fn operator(frames: Frames, operand: Part, op: Infix) -> Result<Reading, Refusal
 }
 
 /// A `?` behind an operand.
-fn question(frames: Frames, operand: Part) -> Result<Reading, Refusal>
+fn question(frames: Stack<Frame>, operand: Part) -> Result<Reading, Refusal>
     ensures { Goes (reader.continued computed (shown.all frames) operand token.Question) result }
 {
     let mut frames = frames;
@@ -100,7 +101,7 @@ fn question(frames: Frames, operand: Part) -> Result<Reading, Refusal>
 }
 
 /// A `:` behind an operand.
-fn colon(frames: Frames, operand: Part) -> Result<Reading, Refusal>
+fn colon(frames: Stack<Frame>, operand: Part) -> Result<Reading, Refusal>
     ensures { Goes (reader.continued computed (shown.all frames) operand token.Colon) result }
 {
     let mut frames = frames;
@@ -112,7 +113,7 @@ fn colon(frames: Frames, operand: Part) -> Result<Reading, Refusal>
 }
 
 /// A closing parenthesis behind an operand.
-fn close(frames: Frames, operand: Part) -> Result<Reading, Refusal>
+fn close(frames: Stack<Frame>, operand: Part) -> Result<Reading, Refusal>
     ensures { Goes (reader.continued computed (shown.all frames) operand token.Close) result }
 {
     let mut frames = frames;
@@ -124,7 +125,7 @@ fn close(frames: Frames, operand: Part) -> Result<Reading, Refusal>
 }
 
 /// A token behind an operand.
-fn continued(frames: Frames, operand: Part, token: ConditionToken) -> Result<Reading, Refusal>
+fn continued(frames: Stack<Frame>, operand: Part, token: ConditionToken) -> Result<Reading, Refusal>
     ensures { Goes (reader.continued computed (shown.all frames) operand token) result }
 {
     match token {
@@ -187,7 +188,7 @@ pub fn judge(alloc: Global, tokens: &[ConditionToken]) -> Result<bool, Refusal>
     ensures { Gives result (judged tokens.now) }
 {
     let mut reading = Reading {
-        frames: Frames::new(alloc),
+        frames: Stack::new(alloc),
         operand: None,
     };
     for token in tokens {

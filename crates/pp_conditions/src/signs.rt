@@ -1,10 +1,10 @@
 //! The punctuators of conditions.
 ghost use Rattle.std.specs.Prelude.{◌≡◌, map};
-ghost use Rattle.c_model.specs.ConditionTokens as spec;
+ghost use Rattle.model_conditions.specs.ConditionTokens as spec;
 
-use c_model::conditions::{ConditionRule, ConditionToken, Infix};
-use c_model::numbers::BinOp;
-use c_model::operators::LogicOp;
+use model_conditions::conditions::{ConditionRule, ConditionToken, Infix};
+use model_types::numbers::BinOp;
+use model_types::operators::LogicOp;
 
 const SIGNS: [(&[u8], ConditionToken); 24] = [
     (b"(", ConditionToken::Open),
@@ -72,7 +72,7 @@ fn sign_in(table: &[(&[u8], ConditionToken)], text: &[u8]) -> Result<ConditionTo
 }
 
 /// The token of a condition that a punctuator is; P14 where it is none.
-#[tactic(auto, unfolding(c_model::specs::ConditionTokens::of_sign))]
+#[tactic(auto, unfolding(model_conditions::specs::ConditionTokens::of_sign))]
 pub fn of_sign(text: &[u8]) -> Result<ConditionToken, ConditionRule>
     ensures { result ≡ spec.of_sign text.now }
 {

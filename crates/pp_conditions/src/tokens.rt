@@ -1,18 +1,19 @@
 //! The tokens of a condition, after macros are replaced.
 ghost use Rattle.std.specs.Prelude.{◌≡◌, ◌++◌, ◌∷◌, ◌<◌, [], drop, length, OnOk, IfErr};
-ghost use Rattle.c_model.specs.ConditionTokens as spec;
-ghost use Rattle.c_model.specs.CTokens.{c_token_of};
+ghost use Rattle.model_conditions.specs.ConditionTokens as spec;
+ghost use Rattle.model_tokens.specs.CTokens.{c_token_of};
 ghost use Rattle.pp_conditions.specs.Answers.{Gives, Refuses};
 ghost use Rattle.pp_conditions.specs.Listed.{Grows};
 
 use crate::errors::Refusal;
+use crate::left_out::is_left_out;
 use crate::signs::of_sign;
-use crate::spelling::{is_left_out, spells};
-use c_model::conditions::{ConditionRule, ConditionToken, WideNumber};
-use c_model::numbers::Basic;
 use c_tokens::{CKind, PpKind, PpList, PpTok, TokenError, c_token};
 use c_types::fits;
 use cake_base::NoMemory;
+use model_conditions::conditions::{ConditionRule, ConditionToken, WideNumber};
+use model_types::numbers::Basic;
+use pp_macros::spells;
 use std::alloc::Global;
 use std::marker::Model;
 
@@ -24,7 +25,7 @@ pub struct Tokens {
 
 impl Model for Tokens {
     ghost use Rattle.std.specs.Prelude.{List};
-    ghost use Rattle.c_model.specs.declared.conditions.ConditionToken.{ConditionToken};
+    ghost use Rattle.model_conditions.specs.declared.conditions.ConditionToken.{ConditionToken};
 
     ghost Value = { List ConditionToken };
 

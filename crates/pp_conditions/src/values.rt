@@ -1,11 +1,11 @@
 //! Values of the parts of a condition.
 ghost use Rattle.std.specs.Prelude.{◌≡◌, IsTrue, None};
-ghost use Rattle.c_model.specs.ConditionValues as spec;
-ghost use Rattle.c_model.specs.Operations as operations;
+ghost use Rattle.model_conditions.specs.ConditionValues as spec;
+ghost use Rattle.model_types.specs.Operations as operations;
 ghost use Rattle.pp_conditions.specs.Parts.{Fitting};
 
-use c_model::conditions::WideNumber;
 use c_types::{Basic, Const, convert};
+use model_conditions::conditions::WideNumber;
 use std::marker::Model;
 
 /// The type of 64 bits in which a part computes.
@@ -40,7 +40,7 @@ pub struct Part {
 }
 
 impl Model for Part {
-    ghost use Rattle.c_model.specs.ConditionValues.{Valued};
+    ghost use Rattle.model_conditions.specs.ConditionValues.{Valued};
     ghost use Rattle.pp_conditions.specs.Parts.{Fitting};
 
     ghost Value = { Valued };

@@ -1,24 +1,23 @@
 -- What the lines do that are text or no conditional's.
 use Rattle.std.proofs.Common.{◌≡◌, ℕ, suc, ◌+◌, ◌-◌, Bool, true, false, List, [], ◌∷◌, ◌++◌, map, length, drop, slice_get, Option, Some, None, Result, Ok, Err, refl, ap, sym, ◌∙◌, subst, cond, arith, append_assoc, ◌||◌, not}
 use Rattle.std.specs.Option.{is_some, is_none, option_map}
-use Rattle.c_model.specs.ConditionalLines.{name_is_defined, name_is_undefined}
+use Rattle.model_preprocessing.specs.ConditionalLines.{name_is_defined, name_is_undefined}
 use Rattle.cake_base.specs.declared.places.Place.{Place}
 use Rattle.cake_base.specs.declared.rules.LimitHit.{LimitHit}
-use Rattle.c_model.specs.PpTokens.{PpToken}
-use Rattle.c_model.specs.Macros.{Macro, Macros, same_text, found, defines, clashes, with_macro}
-use Rattle.c_model.specs.MacroDefinitions.{is_name, definition}
-use Rattle.c_model.specs.MacroArguments.{Run}
-use Rattle.c_model.specs.Pasting.{fresh}
-use Rattle.c_model.specs.Expansion as expansion
-use Rattle.c_model.specs.ExpansionFunction.{expand}
-use Rattle.c_model.specs.Directives.{Part}
-use Rattle.c_model.specs.Pragmas.{diagnostic, assignment, severity_of, finding_number}
-use Rattle.c_model.specs.Processes.{Stop, Process, gives, Log, broken, passed}
-use Rattle.c_model.specs.Sources.{State, here, tokens_here, ranked_from, faults}
-use Rattle.c_model.specs.ControlLines.{MOST_TOKENS, appended, with_tokens, after_expansion, replaced, counted, text_run, parted, note_text, define_line, define_as, defined_as, with_name}
-use Rattle.pp_macros.specs.declared.errors.MacroError.{MacroError}
-use Rattle.pp_macros.specs.declared.errors.MacroError.TheVariants as macro_error
-use Rattle.pp_macros.specs.Answers.{Reads, Defines}
+use Rattle.model_tokens.specs.PpTokens.{PpToken}
+use Rattle.model_macros.specs.Macros.{Macro, Macros, found, defines, clashes, with_macro}
+use Rattle.model_macros.specs.MacroDefinitions.{is_name, definition}
+use Rattle.model_macros.specs.MacroArguments.{Run}
+use Rattle.model_macros.specs.Pasting.{fresh}
+use Rattle.model_macros.specs.Expansion as expansion
+use Rattle.model_macros.specs.ExpansionFunction.{expand}
+use Rattle.model_preprocessing.specs.Directives.{Part}
+use Rattle.model_preprocessing.specs.Processes.{Stop, Process, gives, Log, broken, passed}
+use Rattle.model_preprocessing.specs.Sources.{State, here, tokens_here, ranked_from, faults}
+use Rattle.model_preprocessing.specs.ControlLines.{MOST_TOKENS, appended, with_tokens, after_expansion, replaced, counted, text_run, parted, note_text, define_line, define_as, defined_as, with_name}
+use Rattle.pp_definitions.specs.declared.errors.MacroError.{MacroError}
+use Rattle.pp_definitions.specs.declared.errors.MacroError.TheVariants as macro_error
+use Rattle.pp_definitions.specs.Answers.{Reads, Defines}
 use Rattle.pp_macros.specs.Machine.{Expanded}
 use Rattle.pp_directives.specs.declared.errors.PrepError.{PrepError}
 use Rattle.pp_directives.specs.declared.errors.PrepError.TheVariants as prep_error
@@ -27,7 +26,8 @@ use Rattle.pp_directives.specs.Controls.{name_of}
 use Rattle.pp_directives.specs.Replaced.{Replaced, expansion}
 use Rattle.pp_directives.specs.Outcomes.{Does, Halts, halted}
 use Rattle.pp_directives.specs.Outputs.{Appends, new_tokens, too_many}
-use Rattle.pp_directives.proofs.StateLaws.{at_rank, at_rank-plus, past_end}
+use Rattle.pp_lines.proofs.RankLaws.{at_rank-plus}
+use Rattle.model_types.specs.Texts.{same_text}
 
 -- ---- replacement
 
@@ -104,13 +104,6 @@ note-step toks at t text space more whole here spaced added so_far =
     ∙ append_assoc text (32 ∷ []) (t.spelling ++ rest)
     ∙ ap (λ z. text ++ parted z) (sym (at_rank-plus toks at t here))
     ∙ so_far
-
--- ---- pragmas
-
-pub diagnostic-two : (toks : List PpToken) (t u : PpToken) → slice_get toks 2 ≡ Some t → slice_get toks 3 ≡ Some u → slice_get toks 4 ≡ None →
-    diagnostic (drop 2 toks) ≡ assignment (severity_of t.spelling) (finding_number u.spelling)
-diagnostic-two toks t u first second none =
-    ap diagnostic (at_rank toks 2 t first ∙ ap (λ z. t ∷ z) (at_rank toks 3 u second ∙ ap (λ z. u ∷ z) (past_end toks 4 none)))
 
 -- ---- names of macros
 

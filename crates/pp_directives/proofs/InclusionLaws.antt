@@ -5,24 +5,24 @@ use Rattle.std.proofs.lemmas.Option.{slice_get_read}
 use Rattle.cake_base.specs.declared.places.Place.{Place}
 use Rattle.cake_base.specs.declared.rules.Fault.{Fault}
 use Rattle.cake_base.specs.Outside.{FilesView}
-use Rattle.c_model.specs.declared.directives.LineKind.{LineKind}
-use Rattle.c_model.specs.declared.directives.LineKind.TheVariants as line
-use Rattle.c_model.specs.Directives.{Part}
-use Rattle.c_model.specs.Conditionals.{Conditionals, is_translated, outermost}
-use Rattle.c_model.specs.Includes.{HeaderName}
-use Rattle.c_model.specs.Processes.{passed, Log, Process, gives, and_then}
-use Rattle.c_model.specs.Sources.{State, Source, here}
-use Rattle.c_model.specs.ConditionalLines.{Lines}
-use Rattle.c_model.specs.Preprocessing.{line_of, all_lines, ended}
-use Rattle.c_model.specs.FileSearch.{Found, searched}
-use Rattle.c_model.specs.Included.{Deeper, Enter, header_of, all_candidates, entered, sought, include_line, lines_of, file_lines, translated, levels}
+use Rattle.model_preprocessing.specs.declared.directives.LineKind.{LineKind}
+use Rattle.model_preprocessing.specs.declared.directives.LineKind.TheVariants as line
+use Rattle.model_preprocessing.specs.Directives.{Part}
+use Rattle.model_preprocessing.specs.Conditionals.{Conditionals, is_translated, outermost}
+use Rattle.model_preprocessing.specs.Includes.{HeaderName}
+use Rattle.model_preprocessing.specs.Processes.{passed, Log, Process, gives, and_then}
+use Rattle.model_preprocessing.specs.Sources.{State, Source, here}
+use Rattle.model_preprocessing.specs.ConditionalLines.{Lines}
+use Rattle.model_preprocessing.specs.Preprocessing.{line_of, all_lines, ended}
+use Rattle.model_preprocessing.specs.FileSearch.{Found, searched}
+use Rattle.model_preprocessing.specs.Included.{Deeper, Enter, header_of, all_candidates, entered, sought, include_line, lines_of, file_lines, translated, levels}
 use Rattle.pp_directives.specs.declared.errors.PrepError.{PrepError}
 use Rattle.pp_directives.specs.declared.errors.PrepError.TheVariants as prep_error
 use Rattle.pp_directives.specs.Reads.{Reaches}
 use Rattle.pp_directives.specs.Outcomes.{halted, Does, Stops, StopsUnread, Runs}
 use Rattle.pp_directives.specs.Looks.{LimitIs}
-use Rattle.pp_directives.proofs.StateLaws.{at_rank-plus}
-use Rattle.pp_directives.proofs.SplitLaws.{past-end}
+use Rattle.pp_lines.proofs.RankLaws.{at_rank-plus}
+use Rattle.pp_lines.proofs.SplitLaws.{past-end}
 use Rattle.pp_directives.proofs.ReadLaws.{reaches-self, reaches-more, reaches-then, stops-after, runs-after, stops-then, does-runs}
 
 -- ---- includes

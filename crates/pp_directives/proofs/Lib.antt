@@ -1,11 +1,8 @@
 pub mod ReadLaws
-pub mod NumberLaws
 pub mod StateLaws
-pub mod SplitLaws
 pub mod ControlLaws
-pub mod NameLaws
+pub mod CandidateLaws
 pub mod SearchLaws
-pub mod HeaderLaws
 pub mod InclusionLaws
 pub mod OptionLaws
 pub mod PromiseLaws

@@ -1,8 +1,8 @@
 -- The definitions of the command, line by line.
 use Rattle.std.proofs.Common.{◌≡◌, ℕ, ◌+◌, List, [], ◌∷◌, ◌++◌, drop, slice_get, Option, Some, None, refl, ap, sym, ◌∙◌, append_assoc}
 use Rattle.std.specs.Option.{option_map}
-use Rattle.c_model.specs.PreprocessedUnit.{command_lines, define_text}
-use Rattle.pp_directives.proofs.StateLaws.{at_rank-plus}
+use Rattle.model_preprocessing.specs.PreprocessedUnit.{command_lines, define_text}
+use Rattle.pp_lines.proofs.RankLaws.{at_rank-plus}
 
 pair-read : (o : Option (List ℕ × List ℕ)) (n v : List ℕ) → Some n ≡ option_map (λ d. d.0) o → Some v ≡ option_map (λ d. d.1) o → o ≡ Some (n, v)
 pair-read None n v h i = cc

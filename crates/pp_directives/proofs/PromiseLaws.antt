@@ -3,10 +3,10 @@ use Rattle.std.proofs.Common.{◌≡◌, ℕ, zero, suc, ◌+◌, ◌≤◌, ◌
 use Rattle.std.proofs.lemmas.Bool.Decides.{nat_tests}
 use Rattle.cake_base.specs.Counts.{Rose, counted}
 use Rattle.cake_base.specs.Outside.{Held, FilesView, ReadKeeps, OneMore, IsMissing, StandsUnder, IsTooLarge, bytes_under, max_file}
-use Rattle.c_model.specs.declared.directives.ReadCause.{ReadCause}
-use Rattle.c_model.specs.declared.directives.ReadCause.TheVariants as cause
-use Rattle.c_model.specs.Processes.{ReadAnswer, NotHeld, Contents, TooLarge, Failed, Stop, broken, passed, unread, Log, Refusal, Process, gives, refuses, asks, among, answer_of, where_read_fails}
-use Rattle.c_model.specs.PreprocessedUnit.{Options, Prepared, unit, preprocessed, preprocessed_up_to}
+use Rattle.model_preprocessing.specs.declared.directives.ReadCause.{ReadCause}
+use Rattle.model_preprocessing.specs.declared.directives.ReadCause.TheVariants as cause
+use Rattle.model_preprocessing.specs.Processes.{ReadAnswer, NotHeld, Contents, TooLarge, Failed, Stop, broken, passed, unread, Log, Refusal, Process, gives, refuses, asks, among, answer_of, where_read_fails}
+use Rattle.model_preprocessing.specs.PreprocessedUnit.{Options, Prepared, unit, preprocessed, preprocessed_up_to}
 use Rattle.pp_directives.specs.declared.errors.PrepError.{PrepError}
 use Rattle.pp_directives.specs.declared.errors.PrepError.TheVariants as prep_error
 use Rattle.pp_directives.specs.Reads.{Asked, Answers, Reads, ReadsKeep, After, Reaches}

@@ -1,9 +1,9 @@
 -- Reads one after another, and what is left of a process after them.
 use Rattle.std.proofs.Common.{◌≡◌, ℕ, zero, suc, List, [], ◌∷◌, ◌++◌, Result, Ok, Err, refl, ap, sym, ◌∙◌, subst}
 use Rattle.cake_base.specs.Outside.{FilesView, ReadKeeps}
-use Rattle.c_model.specs.declared.directives.ReadCause.{ReadCause}
-use Rattle.c_model.specs.declared.directives.ReadCause.TheVariants as cause
-use Rattle.c_model.specs.Processes.{ReadAnswer, Failed, Stop, Log, Process, gives, refuses, asks, and_then}
+use Rattle.model_preprocessing.specs.declared.directives.ReadCause.{ReadCause}
+use Rattle.model_preprocessing.specs.declared.directives.ReadCause.TheVariants as cause
+use Rattle.model_preprocessing.specs.Processes.{ReadAnswer, Failed, Stop, Log, Process, gives, refuses, asks, and_then}
 use Rattle.pp_directives.specs.declared.errors.PrepError.{PrepError}
 use Rattle.pp_directives.specs.declared.errors.PrepError.TheVariants as prep_error
 use Rattle.pp_directives.specs.Reads.{Asked, Answers, Reads, ReadsKeep, After, Reaches}

@@ -6,12 +6,12 @@ use Rattle.std.proofs.lemmas.Option.{slice_get_past}
 use Rattle.cake_base.specs.declared.places.Place.{Place}
 use Rattle.cake_base.specs.Counts.{Rose}
 use Rattle.cake_base.specs.Outside.{FilesView, ReadKeeps, StandsUnder, max_file}
-use Rattle.c_model.specs.declared.directives.ReadCause.{ReadCause}
-use Rattle.c_model.specs.declared.directives.ReadCause.TheVariants as cause
-use Rattle.c_model.specs.Includes.{HeaderName, candidates, beside, directory, within, SLASH}
-use Rattle.c_model.specs.Processes.{ReadAnswer, NotHeld, Contents, TooLarge, Failed, unread, Log, Process, gives, refuses, asks}
-use Rattle.c_model.specs.Sources.{State, number_of, next_file, named}
-use Rattle.c_model.specs.FileSearch.{Found, taken, read_file, looked_up, searched, built_in_header}
+use Rattle.model_preprocessing.specs.declared.directives.ReadCause.{ReadCause}
+use Rattle.model_preprocessing.specs.declared.directives.ReadCause.TheVariants as cause
+use Rattle.model_preprocessing.specs.Includes.{HeaderName, candidates, beside, directory, within, SLASH}
+use Rattle.model_preprocessing.specs.Processes.{ReadAnswer, NotHeld, Contents, TooLarge, Failed, unread, Log, Process, gives, refuses, asks}
+use Rattle.model_preprocessing.specs.Sources.{State, number_of, next_file, named}
+use Rattle.model_preprocessing.specs.FileSearch.{Found, taken, read_file, looked_up, searched, built_in_header}
 use Rattle.pp_directives.specs.declared.errors.PrepError.{PrepError}
 use Rattle.pp_directives.specs.declared.errors.PrepError.TheVariants as prep_error
 use Rattle.pp_directives.specs.declared.search.Looked as looked
@@ -19,7 +19,7 @@ use Rattle.pp_directives.specs.declared.search.Looked.TheVariants as looks
 use Rattle.pp_directives.specs.Reads.{Asked, Answers, Reads, ReadsKeep, After, Reaches}
 use Rattle.pp_directives.specs.Outcomes.{halted, Halts, Does, FailsRead, StopsUnread, Stops, Runs}
 use Rattle.pp_directives.specs.Looks.{Looks, Unread}
-use Rattle.pp_directives.proofs.StateLaws.{at_rank-plus, past_end}
+use Rattle.pp_lines.proofs.RankLaws.{at_rank-plus, past_end}
 use Rattle.pp_directives.proofs.ReadLaws.{reaches-self, reaches-more, stops-after, runs-after, does-runs}
 
 -- ---- one read

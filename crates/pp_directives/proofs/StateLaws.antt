@@ -1,32 +1,17 @@
 -- Small laws of the parts of the state.
-use Rattle.std.proofs.Common.{◌≡◌, ℕ, zero, suc, ◌+◌, ◌-◌, ◌<◌, ◌≤◌, true, false, List, [], ◌∷◌, ◌++◌, length, reverse, drop, slice_get, slice_index_or, slice_set, Option, Some, None, refl, ap, sym, ◌∙◌, arith, append_assoc}
-use Rattle.std.specs.Option.{option_map, is_some}
+use Rattle.std.proofs.Common.{◌≡◌, ℕ, zero, suc, ◌+◌, ◌-◌, ◌≤◌, List, [], ◌∷◌, ◌++◌, length, drop, slice_get, Some, None, refl, ap, sym, ◌∙◌, arith, append_assoc}
 use Rattle.std.proofs.lemmas.List.{length-append}
-use mathlib.Core.List.{reverse-cons}
 use Rattle.cake_base.specs.declared.rules.Act.{Act}
 use Rattle.cake_base.specs.declared.rules.Act.TheVariants as act
 use Rattle.cake_base.specs.declared.rules.LimitHit.{LimitHit}
 use Rattle.cake_base.specs.declared.places.Place.{Place}
 use Rattle.cake_base.specs.declared.rules.Mark.{Mark}
-use Rattle.c_model.specs.declared.directives.Conditional.{Conditional}
-use Rattle.c_model.specs.PpTokens.{PpToken}
-use Rattle.c_model.specs.Conditionals.{outermost}
-use Rattle.c_model.specs.Pragmas.{open_pushes, pushes_after}
-use Rattle.c_model.specs.Sources.{Source, standing, standing_token, standing_all, ranked_from, marked_once}
-use Rattle.c_model.specs.ControlLines.{MOST_TOKENS}
+use Rattle.model_tokens.specs.PpTokens.{PpToken}
+use Rattle.model_preprocessing.specs.Pragmas.{open_pushes, pushes_after}
+use Rattle.model_preprocessing.specs.Sources.{standing, standing_token, standing_all, ranked_from}
+use Rattle.model_preprocessing.specs.ControlLines.{MOST_TOKENS}
 use Rattle.pp_directives.specs.Outputs.{HitsAt, too_many}
-
--- ---- the outermost conditional is the last
-
-last-outermost : (cs : List Conditional) (c : Conditional) → outermost (cs ++ c ∷ []) ≡ Some c.at
-last-outermost [] c = refl
-last-outermost (d ∷ []) c = refl
-last-outermost (d ∷ (e ∷ cs)) c = last-outermost (e ∷ cs) c
-
-pub first-outermost : (cs : List Conditional) (c : Conditional) → slice_get cs 0 ≡ Some c → outermost (reverse cs) ≡ Some c.at
-first-outermost [] c = λ h. cc
-first-outermost (d ∷ cs) c = λ h.
-    let e : d ≡ c = cc in ap outermost (reverse-cons d cs) ∙ last-outermost (reverse cs) d ∙ ap (λ (z : Conditional). Some z.at) e
+use Rattle.pp_lines.proofs.RankLaws.{at_rank, at_rank-plus, past_end}
 
 -- ---- pushes
 
@@ -47,38 +32,6 @@ marks-kept ms all m p q e so_far within is =
       is ∙ ap (λ (n : ℕ). pushes_after n m.act) so_far ∙ sym (pushes-more 0 ms m) ∙ ap (open_pushes 0) (sym e),
       omega (arith, more, size),
     )
-
--- ---- items by their ranks
-
-pub at_rank : {A : Type 0} (xs : List A) (n : ℕ) (x : A) → slice_get xs n ≡ Some x → drop n xs ≡ x ∷ drop (suc n) xs
-at_rank [] zero x = λ h. cc
-at_rank [] (suc n) x = λ h. cc
-at_rank (y ∷ xs) zero x = λ h. let e : y ≡ x = cc in ap (λ z. z ∷ xs) e
-at_rank (y ∷ xs) (suc n) x = λ h. at_rank xs n x h
-
-pub at_rank-plus : {A : Type 0} (xs : List A) (n : ℕ) (x : A) → slice_get xs n ≡ Some x → drop n xs ≡ x ∷ drop (n + 1) xs
-at_rank-plus xs n x h = let e : suc n ≡ n + 1 = omega arith in at_rank xs n x h ∙ ap (λ (m : ℕ). x ∷ drop m xs) e
-
-pub past_end : {A : Type 0} (xs : List A) (n : ℕ) → slice_get xs n ≡ None → drop n xs ≡ []
-past_end [] zero = λ h. refl
-past_end [] (suc n) = λ h. refl
-past_end (y ∷ xs) zero = λ h. cc
-past_end (y ∷ xs) (suc n) = λ h. past_end xs n h
-
-pub none_short : {A : Type 0} (xs : List A) (n : ℕ) → slice_get xs n ≡ None → length xs ≤ n
-none_short [] n = λ h. omega arith
-none_short (y ∷ xs) zero = λ h. cc
-none_short (y ∷ xs) (suc n) = λ h. let r : length xs ≤ n = none_short xs n h in omega arith
-
-pub copied-some : {A B : Type 0} (o : Option A) (p : Option B) (f : A → B) (x : A) → option_map f o ≡ p → o ≡ Some x → p ≡ Some (f x)
-copied-some o p f x e h = sym e ∙ ap (option_map f) h
-
-pub copied-none : {A B : Type 0} (o : Option A) (p : Option B) (f : A → B) → option_map f o ≡ p → o ≡ None → p ≡ None
-copied-none o p f e h = sym e ∙ ap (option_map f) h
-
-pub not_some : {A B : Type 0} (o : Option A) (p : Option B) (f : A → B) → option_map f o ≡ p → is_some o ≡ false → p ≡ None
-not_some None p f e h = sym e
-not_some (Some x) p f e h = cc
 
 -- ---- tokens by their ranks
 
@@ -125,15 +78,3 @@ hits-limit old new room t p here is fits at =
       ap (λ (z : ℕ). drop z (ranked_from (length old) new)) (sym is) ∙ ranked-drop (length old) room new ∙ ap (ranked_from (length old + room)) (at_rank new room t here),
       ap (λ (z : Place). let r : LimitHit = record { place = z; limit = record { number = 5 } } in r) (at ∙ ap (λ (z : ℕ). standing z t.place) sum),
     )
-
--- ---- once
-
-pub marked-set : (fs : List Source) (i : ℕ) (f : Source) → f ≡ slice_index_or fs i f → i < length fs → slice_set fs i (record f { once = true }) ≡ marked_once i fs
-marked-set [] i f e h = absurd (omega arith)
-marked-set (g ∷ fs) zero f e h = ap (λ (z : Source). let r : Source = record z { once = true } in r ∷ fs) e
-marked-set (g ∷ fs) (suc i) f e h = let k : i < length fs = omega arith in ap (λ z. g ∷ z) (marked-set fs i f e k)
-
-pub marked-past : (fs : List Source) (i : ℕ) → length fs ≤ i → marked_once i fs ≡ fs
-marked-past [] i h = refl
-marked-past (g ∷ fs) zero h = absurd (omega arith)
-marked-past (g ∷ fs) (suc i) h = let k : length fs ≤ i = omega arith in ap (λ z. g ∷ z) (marked-past fs i k)

@@ -3,15 +3,15 @@ use Rattle.std.proofs.Common.{◌≡◌, ℕ, ◌≤◌, List, [], ◌∷◌, le
 use Rattle.cake_base.specs.Counts.{Rose}
 use Rattle.cake_base.specs.Outside.{Held, FilesView, ReadKeeps, IsMissing}
 use Rattle.cake_base.specs.declared.places.Place.{Place}
-use Rattle.c_model.specs.declared.directives.ReadCause.{ReadCause}
-use Rattle.c_model.specs.declared.directives.ReadCause.TheVariants as cause
-use Rattle.c_model.specs.Processes.{ReadAnswer, NotHeld, Contents, TooLarge, Failed, unread, Log, Process, gives, asks, and_then}
+use Rattle.model_preprocessing.specs.declared.directives.ReadCause.{ReadCause}
+use Rattle.model_preprocessing.specs.declared.directives.ReadCause.TheVariants as cause
+use Rattle.model_preprocessing.specs.Processes.{ReadAnswer, NotHeld, Contents, TooLarge, Failed, unread, Log, Process, gives, asks, and_then}
 use Rattle.cake_base.specs.declared.rules.Mark.{Mark}
-use Rattle.c_model.specs.Place.{main_place, behind_all, first_position}
-use Rattle.c_model.specs.PpTokens.{PpToken}
-use Rattle.c_model.specs.Sources.{State}
-use Rattle.c_model.specs.Included.{Deeper, translated}
-use Rattle.c_model.specs.PreprocessedUnit.{Options, Prepared, first_log, beginning, prepared, both_files, whole, main_read, unit}
+use Rattle.model_preprocessing.specs.Place.{main_place, behind_all, first_position}
+use Rattle.model_tokens.specs.PpTokens.{PpToken}
+use Rattle.model_preprocessing.specs.Sources.{State}
+use Rattle.model_preprocessing.specs.Included.{Deeper, translated}
+use Rattle.model_preprocessing.specs.PreprocessedUnit.{Options, Prepared, first_log, beginning, prepared, both_files, whole, main_read, unit}
 use Rattle.pp_directives.specs.declared.errors.PrepError.{PrepError}
 use Rattle.pp_directives.specs.declared.errors.PrepError.TheVariants as prep_error
 use Rattle.pp_directives.specs.Reads.{Answers, Reaches}

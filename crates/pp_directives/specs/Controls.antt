@@ -1,13 +1,13 @@
 -- What a line other than a conditional's or an include does in a group that is translated.
 use Rattle.std.specs.Prelude.{ℕ, if◌then◌else◌, List, [], ◌∷◌, Option, Some, None}
-use Rattle.c_model.specs.declared.directives.LineKind.{LineKind}
-use Rattle.c_model.specs.declared.directives.LineKind.TheVariants as line
-use Rattle.c_model.specs.PpTokens.{PpToken}
-use Rattle.c_model.specs.MacroDefinitions.{is_name}
-use Rattle.c_model.specs.Directives.{Part}
-use Rattle.c_model.specs.Processes.{Process, gives}
-use Rattle.c_model.specs.Sources.{State, here, faults}
-use Rattle.c_model.specs.ControlLines.{text_run, define_line, undef_line, noted, error_line, pragma_line}
+use Rattle.model_preprocessing.specs.declared.directives.LineKind.{LineKind}
+use Rattle.model_preprocessing.specs.declared.directives.LineKind.TheVariants as line
+use Rattle.model_tokens.specs.PpTokens.{PpToken}
+use Rattle.model_macros.specs.MacroDefinitions.{is_name}
+use Rattle.model_preprocessing.specs.Directives.{Part}
+use Rattle.model_preprocessing.specs.Processes.{Process, gives}
+use Rattle.model_preprocessing.specs.Sources.{State, here, faults}
+use Rattle.model_preprocessing.specs.ControlLines.{text_run, define_line, undef_line, noted, error_line, pragma_line}
 
 -- the macro name that has to follow on a line, if it does
 abbrev pub name_of : List PpToken → Option (List ℕ)

@@ -1,6 +1,6 @@
 -- The errors of replacement among those of preprocessing.
-use Rattle.pp_macros.specs.declared.errors.MacroError.{MacroError}
-use Rattle.pp_macros.specs.declared.errors.MacroError.TheVariants as macro_error
+use Rattle.pp_definitions.specs.declared.errors.MacroError.{MacroError}
+use Rattle.pp_definitions.specs.declared.errors.MacroError.TheVariants as macro_error
 use Rattle.pp_directives.specs.declared.errors.PrepError.{PrepError}
 use Rattle.pp_directives.specs.declared.errors.PrepError.TheVariants as prep_error
 

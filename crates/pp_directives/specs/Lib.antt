@@ -1,9 +1,6 @@
 pub mod Errors
-pub mod Numbers
 pub mod Reads
 pub mod Outcomes
-pub mod Parts
-pub mod Views
 pub mod Outputs
 pub mod Replaced
 pub mod Controls

@@ -2,10 +2,10 @@
 use Rattle.std.specs.Prelude.{◌≡◌, ◌⊎◌, ℕ, ◌+◌, false, true, nat_lt, List, length, Option, Result, Ok, Err}
 use Rattle.cake_base.specs.declared.places.Place.{Place}
 use Rattle.cake_base.specs.Outside.{FilesView}
-use Rattle.c_model.specs.declared.directives.ReadCause.{ReadCause}
-use Rattle.c_model.specs.Processes.{Log, Process, gives}
-use Rattle.c_model.specs.Sources.{State, next_file, named}
-use Rattle.c_model.specs.FileSearch.{Found, MOST_FILES, MOST_BYTES}
+use Rattle.model_preprocessing.specs.declared.directives.ReadCause.{ReadCause}
+use Rattle.model_preprocessing.specs.Processes.{Log, Process, gives}
+use Rattle.model_preprocessing.specs.Sources.{State, next_file, named}
+use Rattle.model_preprocessing.specs.FileSearch.{Found, MOST_FILES, MOST_BYTES}
 use Rattle.pp_directives.specs.declared.errors.PrepError.{PrepError}
 use Rattle.pp_directives.specs.declared.errors.PrepError.TheVariants as prep_error
 use Rattle.pp_directives.specs.declared.search.Looked as looked

@@ -2,9 +2,9 @@
 use Rattle.std.specs.Prelude.{◌≡◌, ℕ, suc, List, Result, Ok, Err}
 use Rattle.cake_base.specs.Counts.{Rose}
 use Rattle.cake_base.specs.Outside.{FilesView, ReadKeeps}
-use Rattle.c_model.specs.declared.directives.ReadCause.{ReadCause}
-use Rattle.c_model.specs.declared.directives.ReadCause.TheVariants as cause
-use Rattle.c_model.specs.Processes.{ReadAnswer, Failed, Stop, broken, passed, unread, Log, Process, gives, refuses, asks}
+use Rattle.model_preprocessing.specs.declared.directives.ReadCause.{ReadCause}
+use Rattle.model_preprocessing.specs.declared.directives.ReadCause.TheVariants as cause
+use Rattle.model_preprocessing.specs.Processes.{ReadAnswer, Failed, Stop, broken, passed, unread, Log, Process, gives, refuses, asks}
 use Rattle.pp_directives.specs.declared.errors.PrepError.{PrepError}
 use Rattle.pp_directives.specs.declared.errors.PrepError.TheVariants as prep_error
 use Rattle.pp_directives.specs.Reads.{Asked, Reads, ReadsKeep, After, Reaches}

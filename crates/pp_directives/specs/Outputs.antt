@@ -1,9 +1,9 @@
 -- Tokens that come after the tokens so far.
 use Rattle.std.specs.Prelude.{◌≡◌, ℕ, ◌-◌, List, [], ◌∷◌, ◌++◌, length, drop, Result, Ok, Err}
 use Rattle.cake_base.specs.declared.rules.LimitHit.{LimitHit}
-use Rattle.c_model.specs.PpTokens.{PpToken}
-use Rattle.c_model.specs.Sources.{ranked_from}
-use Rattle.c_model.specs.ControlLines.{MOST_TOKENS}
+use Rattle.model_tokens.specs.PpTokens.{PpToken}
+use Rattle.model_preprocessing.specs.Sources.{ranked_from}
+use Rattle.model_preprocessing.specs.ControlLines.{MOST_TOKENS}
 use Rattle.pp_directives.specs.declared.errors.PrepError.{PrepError}
 use Rattle.pp_directives.specs.declared.errors.PrepError.TheVariants as prep_error
 

@@ -4,11 +4,11 @@ use Rattle.cake_base.specs.declared.places.Place.{Place}
 use Rattle.cake_base.specs.declared.rules.Mark.{Mark}
 use Rattle.cake_base.specs.Counts.{Rose}
 use Rattle.cake_base.specs.Outside.{Held, FilesView, ReadKeeps}
-use Rattle.c_model.specs.declared.directives.ReadCause.{ReadCause}
-use Rattle.c_model.specs.declared.directives.ReadCause.TheVariants as cause
-use Rattle.c_model.specs.PpTokens.{PpToken}
-use Rattle.c_model.specs.Processes.{NotHeld, TooLarge, Stop, broken, passed, unread, Log, Refusal, gives}
-use Rattle.c_model.specs.PreprocessedUnit.{Options, Prepared, unit, preprocessed, preprocessed_up_to}
+use Rattle.model_preprocessing.specs.declared.directives.ReadCause.{ReadCause}
+use Rattle.model_preprocessing.specs.declared.directives.ReadCause.TheVariants as cause
+use Rattle.model_tokens.specs.PpTokens.{PpToken}
+use Rattle.model_preprocessing.specs.Processes.{NotHeld, TooLarge, Stop, broken, passed, unread, Log, Refusal, gives}
+use Rattle.model_preprocessing.specs.PreprocessedUnit.{Options, Prepared, unit, preprocessed, preprocessed_up_to}
 use Rattle.pp_directives.specs.Reads.{Answers, Reaches}
 use Rattle.pp_directives.specs.Outcomes.{Refuses, Stops}
 use Rattle.pp_directives.specs.declared.errors.PrepError.{PrepError}

@@ -2,7 +2,7 @@
 use Rattle.std.specs.Prelude.{◌≡◌, ℕ, zero, suc, ◌<◌, ◌≤◌, List, [], ◌∷◌, length, Some}
 use Rattle.cake_base.specs.Counts.{Rose}
 use Rattle.cake_base.specs.Outside.{FilesView, ReadKeeps, StandsUnder, IsMissing, IsTooLarge, max_file}
-use Rattle.c_model.specs.Processes.{ReadAnswer, NotHeld, Contents, TooLarge, Failed, Process, gives, refuses, asks}
+use Rattle.model_preprocessing.specs.Processes.{ReadAnswer, NotHeld, Contents, TooLarge, Failed, Process, gives, refuses, asks}
 
 -- a read that was asked for, with its answer
 pub record Asked : Type 0 where

@@ -1,12 +1,12 @@
 -- What replacement does to the tokens of a line and to the state.
 use Rattle.std.specs.Prelude.{◌≡◌, ℕ, List, map, Result, Ok, Err}
-use Rattle.c_model.specs.PpTokens.{PpToken}
-use Rattle.c_model.specs.MacroArguments.{Run}
-use Rattle.c_model.specs.Pasting.{fresh}
-use Rattle.c_model.specs.Expansion.{Answer, broken, passed}
-use Rattle.c_model.specs.ExpansionFunction.{expand}
-use Rattle.c_model.specs.Sources.{State, tokens_here}
-use Rattle.c_model.specs.ControlLines.{counted}
+use Rattle.model_tokens.specs.PpTokens.{PpToken}
+use Rattle.model_macros.specs.MacroArguments.{Run}
+use Rattle.model_macros.specs.Pasting.{fresh}
+use Rattle.model_macros.specs.Expansion.{Answer, broken, passed}
+use Rattle.model_macros.specs.ExpansionFunction.{expand}
+use Rattle.model_preprocessing.specs.Sources.{State, tokens_here}
+use Rattle.model_preprocessing.specs.ControlLines.{counted}
 use Rattle.pp_directives.specs.declared.errors.PrepError.{PrepError}
 use Rattle.pp_directives.specs.declared.errors.PrepError.TheVariants as prep_error
 

@@ -1,11 +1,11 @@
 -- What a conditional tests, and the conditional that a line goes on.
 use Rattle.std.specs.Prelude.{◌≡◌, true, false, List, [], ◌∷◌, Result, Ok, Err}
-use Rattle.c_model.specs.declared.directives.Conditional.{Conditional}
-use Rattle.c_model.specs.Directives.{Part}
-use Rattle.c_model.specs.Conditionals.{Conditionals}
-use Rattle.c_model.specs.Sources.{State, here}
-use Rattle.c_model.specs.ConditionalLines.{Test, expression_holds, name_is_defined, name_is_undefined}
-use Rattle.pp_macros.specs.Answers.{rule_at}
+use Rattle.model_preprocessing.specs.declared.directives.Conditional.{Conditional}
+use Rattle.model_preprocessing.specs.Directives.{Part}
+use Rattle.model_preprocessing.specs.Conditionals.{Conditionals}
+use Rattle.model_preprocessing.specs.Sources.{State, here}
+use Rattle.model_preprocessing.specs.ConditionalLines.{Test, expression_holds, name_is_defined, name_is_undefined}
+use Rattle.pp_definitions.specs.Answers.{rule_at}
 use Rattle.pp_directives.specs.declared.branches.Test as tests
 use Rattle.pp_directives.specs.declared.branches.Test.TheVariants.{Expression, Defined, Undefined}
 use Rattle.pp_directives.specs.declared.errors.PrepError.{PrepError}

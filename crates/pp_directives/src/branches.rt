@@ -1,21 +1,21 @@
 //! The lines of conditionals.
 ghost use Rattle.std.specs.Prelude.{◌≡◌};
-ghost use Rattle.c_model.specs.ConditionalLines as spec;
+ghost use Rattle.model_preprocessing.specs.ConditionalLines as spec;
 ghost use Rattle.pp_directives.specs.Outcomes.{Does};
 ghost use Rattle.pp_directives.specs.Tests.{test_of, Reached};
 
-use crate::conditionals::{Conditionals, else_group, group_where};
 use crate::control::{fault, macro_name};
 use crate::errors::PrepError;
-use crate::parts::Part;
+use crate::rules::{NO_MACRO_NAME, NO_OPEN_CONDITIONAL};
 use crate::unit::Unit;
-use c_model::directives::{Conditional, Group};
 use cake_base::NoMemory;
+use model_preprocessing::directives::{Conditional, Group};
 use pp_conditions::evaluate;
+use pp_lines::{Conditionals, Part, else_group, group_where};
 use std::alloc::Global;
 
 /// What a conditional tests: an expression, that a macro is defined, or that none is.
-#[derive(Clone, Copy, Debug, PartialEq, Eq)]
+#[derive(Clone, Copy)]
 pub enum Test {
     Expression,
     Defined,
@@ -38,7 +38,7 @@ fn name_is_defined(unit: &Unit, part: &Part) -> Result<bool, PrepError>
 {
     match macro_name(&part.tokens) {
         Some(name) => Ok(unit.table.find(name).is_some()),
-        None => Err(fault(unit.here(part.at), 19)),
+        None => Err(fault(unit.here(part.at), NO_MACRO_NAME)),
     }
 }
 
@@ -48,7 +48,7 @@ fn name_is_undefined(unit: &Unit, part: &Part) -> Result<bool, PrepError>
 {
     match macro_name(&part.tokens) {
         Some(name) => Ok(unit.table.find(name).is_none()),
-        None => Err(fault(unit.here(part.at), 19)),
+        None => Err(fault(unit.here(part.at), NO_MACRO_NAME)),
     }
 }
 
@@ -94,7 +94,7 @@ fn innermost(unit: &Unit, part: &Part, opened: &Conditionals) -> Result<Conditio
 {
     match opened.first() {
         Some(conditional) if !conditional.last => Ok(conditional),
-        _ => Err(fault(unit.here(part.at), 12)),
+        _ => Err(fault(unit.here(part.at), NO_OPEN_CONDITIONAL)),
     }
 }
 
@@ -143,6 +143,6 @@ pub fn endif_line(unit: &Unit, part: &Part, opened: &mut Conditionals) -> Result
 {
     match opened.pop() {
         Some(_) => Ok(()),
-        None => Err(fault(unit.here(part.at), 12)),
+        None => Err(fault(unit.here(part.at), NO_OPEN_CONDITIONAL)),
     }
 }

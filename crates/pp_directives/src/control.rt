@@ -1,19 +1,21 @@
 //! What a line does that is text or no conditional's.
 ghost use Rattle.std.specs.Prelude.{◌≡◌, ◌++◌, drop, option_copied, IfOk, OnOk};
-ghost use Rattle.c_model.specs.ControlLines as spec;
-ghost use Rattle.c_model.specs.Sources as sources;
+ghost use Rattle.model_preprocessing.specs.ControlLines as spec;
+ghost use Rattle.model_preprocessing.specs.Sources as sources;
 ghost use Rattle.pp_directives.specs.Outcomes.{Does};
 ghost use Rattle.pp_directives.specs.Controls.{name_of, control_of};
 ghost use Rattle.pp_directives.specs.declared.errors.PrepError.TheVariants as prep_error;
-ghost use Rattle.pp_macros.specs.Answers.{rule_at};
+ghost use Rattle.pp_definitions.specs.Answers.{rule_at};
 
 use crate::errors::PrepError;
-use crate::parts::Part;
-use crate::pragmas::pragma_of;
+use crate::rules::{
+    ERROR_DIRECTIVE, LEFT_OUT, MALFORMED_PRAGMA, NO_MACRO_NAME, RESERVED_NAME, UNKNOWN_DIRECTIVE,
+};
 use crate::unit::Unit;
-use c_model::directives::{LineKind, Pragma};
 use c_tokens::{PpKind, PpList};
 use cake_base::{Act, Bytes, Family, Fault, Mark, NoMemory, Note, Place, Rule};
+use model_preprocessing::directives::{LineKind, Pragma};
+use pp_lines::{Part, pragma_of};
 use pp_macros::{is_reserved, read_macro};
 use std::alloc::Global;
 
@@ -71,10 +73,10 @@ fn undef_line(unit: &mut Unit, part: &Part) -> Result<(), PrepError>
 {
     let at = unit.here(part.at);
     let Some(name) = macro_name(&part.tokens) else {
-        return Err(fault(at, 19));
+        return Err(fault(at, NO_MACRO_NAME));
     };
     if is_reserved(name) {
-        return Err(fault(at, 9));
+        return Err(fault(at, RESERVED_NAME));
     }
     let _ = unit.table.undef(name);
     Ok(())
@@ -114,7 +116,7 @@ fn error_line(alloc: Global, unit: &mut Unit, part: &Part) -> Result<(), PrepErr
 {
     let at = unit.here(part.at);
     note(alloc, unit, part)?;
-    Err(fault(at, 11))
+    Err(fault(at, ERROR_DIRECTIVE))
 }
 
 /// `#warning`.
@@ -130,7 +132,7 @@ fn mark(unit: &mut Unit, at: Place, act: Act) -> Result<(), PrepError>
     ensures { Does (spec.marked unit.old at act) result (λ _. unit.new) unit.new.log }
 {
     if unit.marks.pops_nothing(act) {
-        return Err(fault(at, 18));
+        return Err(fault(at, MALFORMED_PRAGMA));
     }
     let before = unit.tokens.count();
     unit.marks.push(Mark { before, act })?;
@@ -148,7 +150,7 @@ fn pragma_line(unit: &mut Unit, file: u32, part: &Part) -> Result<(), PrepError>
             Ok(())
         }
         Pragma::Marks(act) => mark(unit, at, act),
-        Pragma::Malformed => Err(fault(at, 18)),
+        Pragma::Malformed => Err(fault(at, MALFORMED_PRAGMA)),
         Pragma::Dropped => Ok(()),
     }
 }
@@ -166,13 +168,13 @@ pub fn control_line(alloc: Global, unit: &mut Unit, file: u32, part: &Part) -> R
 {
     match part.kind {
         LineKind::Text => text_run(alloc, unit, part),
-        LineKind::Embed => refused_line(unit, part, 20),
+        LineKind::Embed => refused_line(unit, part, LEFT_OUT),
         LineKind::Define => define_line(alloc, unit, part),
         LineKind::Undef => undef_line(unit, part),
         LineKind::Error => error_line(alloc, unit, part),
         LineKind::Warning => warning_line(alloc, unit, part),
         LineKind::Pragma => pragma_line(unit, file, part),
-        LineKind::Unknown => refused_line(unit, part, 16),
+        LineKind::Unknown => refused_line(unit, part, UNKNOWN_DIRECTIVE),
         LineKind::If => Ok(()),
         LineKind::Ifdef => Ok(()),
         LineKind::Ifndef => Ok(()),

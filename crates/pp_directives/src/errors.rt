@@ -1,6 +1,6 @@
 //! Why no list of tokens is answered.
-use c_model::directives::ReadCause;
 use cake_base::{Fault, LimitHit, NoMemory};
+use model_preprocessing::directives::ReadCause;
 use pp_macros::MacroError;
 use thiserror::Error;
 

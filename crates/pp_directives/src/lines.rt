@@ -1,31 +1,28 @@
 //! The lines of a file in turn, and those of the files that it includes.
 ghost use Rattle.std.specs.Prelude.{◌≡◌, ◌≢◌, slice_get, IfOk, IfErr};
 ghost use Rattle.std.specs.Option.{option_map};
-ghost use Rattle.c_model.specs.Directives as directives;
-ghost use Rattle.c_model.specs.Included as included;
-ghost use Rattle.c_model.specs.Preprocessing as spec;
-ghost use Rattle.c_model.specs.Processes.{Process};
-ghost use Rattle.c_model.specs.Sources.{State};
-ghost use Rattle.c_model.specs.Sources as sources;
-ghost use Rattle.c_model.specs.Conditionals as conditionals;
+ghost use Rattle.model_preprocessing.specs.Directives as directives;
+ghost use Rattle.model_preprocessing.specs.Included as included;
+ghost use Rattle.model_preprocessing.specs.Preprocessing as spec;
+ghost use Rattle.model_preprocessing.specs.Processes.{Process};
+ghost use Rattle.model_preprocessing.specs.Sources.{State};
+ghost use Rattle.model_preprocessing.specs.Sources as sources;
+ghost use Rattle.model_preprocessing.specs.Conditionals as conditionals;
 ghost use Rattle.pp_directives.specs.Controls.{control_of};
 ghost use Rattle.pp_directives.specs.Lines.{Finds, IsFault};
 ghost use Rattle.pp_directives.specs.Outcomes.{Does, Runs};
 
 use crate::branches::{Test, begin, else_line, endif_line, go_on};
-use crate::conditionals::Conditionals;
 use crate::control::{control_line, fault};
 use crate::errors::PrepError;
-use crate::kinds::is_include;
-use crate::names::{HeaderName, direct_name, replaced_name};
 use crate::options::Options;
-use crate::parts::Part;
+use crate::rules::{CONDITIONAL_NOT_ENDED, MALFORMED_INCLUDE, TOO_MANY_LEVELS};
 use crate::search::find;
-use crate::sources::Lines;
 use crate::taking::limit;
 use crate::unit::Unit;
-use c_model::directives::LineKind;
 use cake_base::{Files, NoMemory, Place};
+use model_preprocessing::directives::LineKind;
+use pp_lines::{Conditionals, HeaderName, Lines, Part, direct_name, is_include, replaced_name};
 use std::alloc::Global;
 use std::rc::Rc;
 
@@ -43,7 +40,7 @@ fn header_of(alloc: Global, unit: &mut Unit, part: &Part) -> Result<HeaderName, 
     };
     match found {
         Some(header) if !header.name.as_slice().is_empty() => Ok(header),
-        _ => Err(fault(at, 17)),
+        _ => Err(fault(at, MALFORMED_INCLUDE)),
     }
 }
 
@@ -103,7 +100,7 @@ fn end_of_file(unit: &Unit, opened: &Conditionals) -> Result<(), PrepError>
     ensures { Does (spec.ended unit.now (conditionals.outermost opened.now)) result (λ _. unit.now) unit.now.log }
 {
     match opened.outermost() {
-        Some(at) => Err(fault(at, 13)),
+        Some(at) => Err(fault(at, CONDITIONAL_NOT_ENDED)),
         None => Ok(()),
     }
 }
@@ -139,7 +136,7 @@ fn include<F: Files>(
     let at = unit.here(part.at);
     let header = header_of(alloc, unit, part)?;
     if levels == 0 {
-        return Err(limit(at, 3));
+        return Err(limit(at, TOO_MANY_LEVELS));
     }
     match find(alloc, files, options, unit, file, at, &header)? {
         Some(found) => translate(alloc, files, options, unit, found, levels - 1),

@@ -14,7 +14,7 @@ pub struct PrepLog {
 }
 
 impl Model for PrepLog {
-    ghost use Rattle.c_model.specs.Processes.{Log};
+    ghost use Rattle.model_preprocessing.specs.Processes.{Log};
 
     ghost Value = { Log };
 

@@ -1,6 +1,6 @@
 //! The marks of a unit, and how many of its pushes are open.
 ghost use Rattle.std.specs.Prelude.{◌≡◌, ◌++◌, ◌∷◌, [], OnOk};
-ghost use Rattle.c_model.specs.Pragmas as pragmas;
+ghost use Rattle.model_preprocessing.specs.Pragmas as pragmas;
 
 use crate::lists::Marks;
 use cake_base::{Act, Mark, NoMemory};
@@ -17,7 +17,7 @@ pub struct OpenMarks {
 impl Model for OpenMarks {
     ghost use Rattle.std.specs.Prelude.{◌≡◌, ◌≤◌, List, length};
     ghost use Rattle.cake_base.specs.declared.rules.Mark.{Mark};
-    ghost use Rattle.c_model.specs.Pragmas as pragmas;
+    ghost use Rattle.model_preprocessing.specs.Pragmas as pragmas;
 
     ghost Value = { List Mark };
 

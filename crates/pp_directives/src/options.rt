@@ -24,7 +24,7 @@ pub struct Options {
 
 impl Model for Options {
     ghost use Rattle.std.specs.Prelude.{map};
-    ghost use Rattle.c_model.specs.PreprocessedUnit.{Options};
+    ghost use Rattle.model_preprocessing.specs.PreprocessedUnit.{Options};
 
     ghost Value = { Options };
 
@@ -48,14 +48,9 @@ impl Options {
         ensures ok { OnOk result (self.new ≡ record self.old { defines = self.old.defines ++ (name.now, value.now) ∷ [] }) }
         ensures err { OnErr result (self.new ≡ self.old) }
     {
-        let mut kept_name = Bytes::new(self.alloc);
-        kept_name.push(name)?;
-        let mut kept_value = Bytes::new(self.alloc);
-        kept_value.push(value)?;
-        self.defines.push(Definition {
-            name: kept_name,
-            value: kept_value,
-        })?;
+        let name = Bytes::of(self.alloc, name)?;
+        let value = Bytes::of(self.alloc, value)?;
+        self.defines.push(Definition { name, value })?;
         Ok(())
     }
 

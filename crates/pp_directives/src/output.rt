@@ -1,9 +1,10 @@
 //! The preprocessed tokens.
 ghost use Rattle.std.specs.Prelude.{◌≡◌, ◌++◌, ◌+◌, ◌≤◌, [], length, OnOk};
-ghost use Rattle.c_model.specs.Sources.{ranked_from};
+ghost use Rattle.model_preprocessing.specs.Sources.{ranked_from};
 ghost use Rattle.pp_directives.specs.Outputs.{Appends};
 
 use crate::errors::PrepError;
+use crate::rules::TOO_MANY_TOKENS;
 use c_tokens::{PpList, PpTok};
 use cake_base::{Limit, LimitHit, NoMemory, Place};
 use std::alloc::Global;
@@ -20,7 +21,7 @@ pub struct Output {
 
 impl Model for Output {
     ghost use Rattle.std.specs.Prelude.{List, ◌≤◌, length};
-    ghost use Rattle.c_model.specs.PpTokens.{PpToken};
+    ghost use Rattle.model_tokens.specs.PpTokens.{PpToken};
 
     ghost Value = { List PpToken };
 
@@ -87,7 +88,9 @@ impl Output {
         if let Some(past) = new.get(room as usize) {
             return Err(PrepError::Limit(LimitHit {
                 place: standing(MOST_TOKENS, past.place),
-                limit: Limit { number: 5 },
+                limit: Limit {
+                    number: TOO_MANY_TOKENS,
+                },
             }));
         }
         add_ranked(alloc, &mut self.tokens, count, new)?;

@@ -1,20 +1,21 @@
 //! The search for a file to be included.
 ghost use Rattle.std.specs.Prelude.{◌≡◌, slice_get, None, IfOk};
-ghost use Rattle.c_model.specs.FileSearch as spec;
-ghost use Rattle.c_model.specs.Included as included;
-ghost use Rattle.c_model.specs.Sources.{number_of};
-ghost use Rattle.c_model.specs.Processes.{Process};
-ghost use Rattle.c_model.specs.Processes as process;
+ghost use Rattle.model_preprocessing.specs.FileSearch as spec;
+ghost use Rattle.model_preprocessing.specs.Included as included;
+ghost use Rattle.model_preprocessing.specs.Sources.{number_of};
+ghost use Rattle.model_preprocessing.specs.Processes.{Process};
+ghost use Rattle.model_preprocessing.specs.Processes as process;
 ghost use Rattle.pp_directives.specs.Outcomes.{Runs};
 ghost use Rattle.pp_directives.specs.Looks.{Looks};
 
+use crate::candidates::candidate;
 use crate::errors::PrepError;
-use crate::names::{HeaderName, candidate};
 use crate::options::Options;
 use crate::taking::{again, find_built_in, take, unread};
 use crate::unit::Unit;
-use c_model::directives::ReadCause;
 use cake_base::{Bytes, Files, NoMemory, Place, ReadFault};
+use model_preprocessing::directives::ReadCause;
+use pp_lines::HeaderName;
 use std::alloc::Global;
 
 /// What the search for one name gives.

@@ -1,19 +1,20 @@
 //! Files that are taken.
 ghost use Rattle.std.specs.Prelude.{◌≡◌, ◌<◌, ◌≤◌, length, slice_get, Some, None, IfOk};
-ghost use Rattle.c_model.specs.FileSearch as spec;
-ghost use Rattle.c_model.specs.Sources.{number_of};
-ghost use Rattle.c_model.specs.Sources as sources;
-ghost use Rattle.c_model.specs.Processes as process;
-ghost use Rattle.c_model.specs.Headers.{built_in_text};
+ghost use Rattle.model_preprocessing.specs.FileSearch as spec;
+ghost use Rattle.model_preprocessing.specs.Sources.{number_of};
+ghost use Rattle.model_preprocessing.specs.Sources as sources;
+ghost use Rattle.model_preprocessing.specs.Processes as process;
+ghost use Rattle.model_preprocessing.specs.Headers.{built_in_text};
 ghost use Rattle.pp_directives.specs.Outcomes.{Does};
 ghost use Rattle.pp_directives.specs.Looks.{Unread, LimitIs, HasRoom};
 
 use crate::control::fault;
 use crate::errors::PrepError;
-use crate::headers::built_in;
+use crate::rules::{NO_SUCH_FILE, TOO_MANY_BYTES, TOO_MANY_FILES};
 use crate::unit::Unit;
-use c_model::directives::ReadCause;
 use cake_base::{Limit, LimitHit, NoMemory, Place};
+use model_preprocessing::directives::ReadCause;
+use pp_lines::built_in;
 use std::alloc::Global;
 
 /// The most files that are read.
@@ -48,11 +49,11 @@ fn check_room(unit: &Unit, at: Place, size: usize) -> Result<u64, PrepError>
     ensures { HasRoom unit.now at size result }
 {
     if unit.held.count() >= MOST_FILES {
-        return Err(limit(at, 2));
+        return Err(limit(at, TOO_MANY_FILES));
     }
     let total = unit.bytes.saturating_add(size as u64);
     if total > MOST_BYTES {
-        return Err(limit(at, 1));
+        return Err(limit(at, TOO_MANY_BYTES));
     }
     Ok(total)
 }
@@ -85,7 +86,7 @@ fn take_built_in(alloc: Global, unit: &mut Unit, at: Place, name: &[u8]) -> Resu
     ensures { Does (spec.new_built_in at name.now unit.old (built_in_text name.now)) result (λ file. (Some file, unit.new)) unit.new.log }
 {
     let Some(header) = built_in(name) else {
-        return Err(fault(at, 10));
+        return Err(fault(at, NO_SUCH_FILE));
     };
     let file = unit.name_next(alloc, header.shown)?;
     unit.built_in.add(alloc, name, file)?;

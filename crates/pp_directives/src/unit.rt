@@ -1,21 +1,20 @@
 //! The state that the lines of a unit change.
 ghost use Rattle.std.specs.Prelude.{◌≡◌, ◌++◌, ◌∷◌, ◌<◌, ◌≤◌, [], ℕ, map, length, slice_get, Some, None, is_none, IfOk, OnOk};
 ghost use Rattle.std.specs.Option.{option_map};
-ghost use Rattle.c_model.specs.Macros as macros;
-ghost use Rattle.c_model.specs.PreprocessedUnit as whole;
-ghost use Rattle.c_model.specs.Sources as spec;
+ghost use Rattle.model_macros.specs.Macros as macros;
+ghost use Rattle.model_preprocessing.specs.PreprocessedUnit as whole;
+ghost use Rattle.model_preprocessing.specs.Sources as spec;
 ghost use Rattle.pp_directives.specs.Replaced.{Replaced};
 
 use crate::errors::PrepError;
 use crate::lists::Marks;
 use crate::log::PrepLog;
 use crate::marks::OpenMarks;
-use crate::numbers::FileNumbers;
 use crate::options::Options;
 use crate::output::{Output, standing};
-use crate::sources::Sources;
 use c_tokens::PpList;
 use cake_base::{Bytes, FileName, NoMemory, Place};
+use pp_lines::{FileNumbers, Sources};
 use pp_macros::{MacroTable, Work, expand};
 use std::alloc::Global;
 use std::marker::Model;
@@ -38,7 +37,7 @@ pub struct Unit {
 }
 
 impl Model for Unit {
-    ghost use Rattle.c_model.specs.Sources as spec;
+    ghost use Rattle.model_preprocessing.specs.Sources as spec;
 
     ghost Value = { spec.State };
 
@@ -124,6 +123,38 @@ fn command_lines(alloc: Global, options: &Options) -> Result<Bytes, NoMemory>
     Ok(text)
 }
 
+/// The predefined macros, with the names of the files 0 and 1.
+fn first_macros(alloc: Global, name: &str) -> Result<MacroTable, NoMemory>
+    ensures { IfOk result (λ table. table ≡ record macros.first_table { files = macros.with_file 1 whole.COMMAND_LINE (macros.with_file 0 name.now macros.first_table.files) }) }
+{
+    let mut table = MacroTable::new(alloc)?;
+    table.name_file(0, name)?;
+    table.name_file(1, COMMAND_LINE)?;
+    Ok(table)
+}
+
+/// The main file, which was read.
+fn first_held(alloc: Global, name: &str) -> Result<FileNumbers, NoMemory>
+    ensures { IfOk result (λ held. held ≡ (name.now, 0) ∷ []) }
+{
+    let mut held = FileNumbers::new(alloc);
+    held.add(alloc, name.as_bytes(), 0)?;
+    Ok(held)
+}
+
+/// The main file, which has this text, and the definitions of the command.
+fn first_sources(alloc: Global, options: &Options, text: &[u8]) -> Result<Sources, NoMemory>
+    requires short { length text.now ≤ 16777216 }
+    requires lines { length (whole.command_lines options.now.defines) < 4294967295 }
+    ensures { IfOk result (λ sources. sources ≡ spec.source 0 text.now ∷ spec.source 1 (whole.command_lines options.now.defines) ∷ []) }
+{
+    let defines = command_lines(alloc, options)?;
+    let mut sources = Sources::new(alloc);
+    sources.add(alloc, 0, text)?;
+    sources.add(alloc, 1, defines.as_slice())?;
+    Ok(sources)
+}
+
 impl Unit {
     /// The state after the main file of that name was read, which has this text.
     pub fn new(alloc: Global, options: &Options, name: &str, text: &[u8]) -> Result<Unit, NoMemory>
@@ -131,18 +162,13 @@ impl Unit {
         requires lines { length (whole.command_lines options.now.defines) < 4294967295 }
         ensures { IfOk result (λ unit. unit ≡ whole.beginning options.now name.now text.now) }
     {
-        let mut table = MacroTable::new(alloc)?;
-        table.name_file(0, name)?;
-        table.name_file(1, COMMAND_LINE)?;
-        let mut held = FileNumbers::new(alloc);
-        held.add(alloc, name.as_bytes(), 0)?;
-        let defines = command_lines(alloc, options)?;
-        let mut sources = Sources::new(alloc);
-        sources.add(alloc, 0, text)?;
-        sources.add(alloc, 1, defines.as_slice())?;
+        let log = first_log(alloc, name)?;
+        let held = first_held(alloc, name)?;
+        let sources = first_sources(alloc, options, text)?;
+        let table = first_macros(alloc, name)?;
         Ok(Unit {
             table,
-            log: first_log(alloc, name)?,
+            log,
             held,
             built_in: FileNumbers::new(alloc),
             sources,

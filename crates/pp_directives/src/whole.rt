@@ -1,9 +1,9 @@
 //! Preprocessing of a unit.
 ghost use Rattle.std.specs.Prelude.{◌≡◌, ◌<◌, ◌≤◌, [], length, IfOk, IfErr};
 ghost use Rattle.cake_base.specs.Outside.{ReadKeeps};
-ghost use Rattle.c_model.specs.Place as places;
-ghost use Rattle.c_model.specs.PreprocessedUnit as whole;
-ghost use Rattle.c_model.specs.Processes as process;
+ghost use Rattle.model_preprocessing.specs.Place as places;
+ghost use Rattle.model_preprocessing.specs.PreprocessedUnit as whole;
+ghost use Rattle.model_preprocessing.specs.Processes as process;
 ghost use Rattle.pp_directives.specs.Outcomes.{Runs};
 ghost use Rattle.pp_directives.specs.Promise.{IsDue, FailedRead, MissedMain, Kept, IsAnswered, MainUnread};
 ghost use Rattle.pp_directives.specs.Reads.{Answers};
@@ -14,10 +14,10 @@ use crate::lists::Marks;
 use crate::log::PrepLog;
 use crate::options::Options;
 use crate::unit::{Unit, first_log};
-use c_model::directives::ReadCause;
-use c_model::positions::Position;
 use c_tokens::PpList;
 use cake_base::{Files, NoMemory, Place, ReadFault};
+use model_preprocessing::directives::ReadCause;
+use model_preprocessing::positions::Position;
 use std::alloc::Global;
 use std::marker::Model;
 

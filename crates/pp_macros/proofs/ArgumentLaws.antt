@@ -1,10 +1,10 @@
 -- The parts of a call, one token after another.
 use Rattle.std.proofs.Common.{◌≡◌, ℕ, suc, ◌+◌, ◌-◌, ◌<◌, Bool, true, false, ◌&&◌, ◌==◌, nat_lt, List, [], ◌∷◌, ◌++◌, Option, Some, None, length, map, drop, refl, ap, sym, ◌∙◌, append_assoc, append-nil, length-append, ◌≤◌, cond, arith}
 use Rattle.cake_base.specs.declared.places.Place.{Place}
-use Rattle.c_model.specs.Macros.{spells}
-use Rattle.c_model.specs.MacroDefinitions.{COMMA}
-use Rattle.c_model.specs.ReplacementLists.{deeper}
-use Rattle.c_model.specs.MacroArguments.{Painted, Run, Inside, in_front, at_place, placed, onto, parts}
+use Rattle.model_macros.specs.Macros.{spells}
+use Rattle.model_macros.specs.MacroDefinitions.{COMMA}
+use Rattle.model_macros.specs.ReplacementLists.{deeper}
+use Rattle.model_macros.specs.MacroArguments.{Painted, Run, Inside, in_front, at_place, placed, onto, parts}
 
 abbrev pub all_in_front : Run → Option Inside → Option Inside
 all_in_front xs None = None

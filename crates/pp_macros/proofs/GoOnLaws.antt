@@ -1,22 +1,22 @@
 -- A call that goes on, taken apart and put together again.
 use Rattle.std.proofs.Common.{◌≡◌, ℕ, ◌+◌, ◌<◌, ◌≤◌, true, max, List, [], ◌∷◌, ◌++◌, length, map, drop, Option, Some, None, Ok, Err, refl, ap, subst, sym, ◌∙◌, arith, length-append, append_assoc, slice_get, inl, inr}
 use Rattle.cake_base.specs.declared.places.Place.{Place}
-use Rattle.c_model.specs.PpTokens.{PpToken}
-use Rattle.c_model.specs.Macros.{Macro, Macros}
+use Rattle.model_tokens.specs.PpTokens.{PpToken}
+use Rattle.model_macros.specs.Macros.{Macro, Macros}
 use Rattle.std.specs.Option.{is_some, MatchOption}
-use Rattle.c_model.specs.HideSets.{common, with_rank}
-use Rattle.c_model.specs.MacroArguments.{Painted, Run, inside, placed, arguments}
-use Rattle.c_model.specs.Substitution.{Argument, Use, unreplaced, uses, written, with_replaced, variable_rank, substituted}
+use Rattle.model_macros.specs.HideSets.{common, with_rank}
+use Rattle.model_macros.specs.MacroArguments.{Painted, Run, inside, placed, arguments}
+use Rattle.model_macros.specs.Substitution.{Argument, Use, unreplaced, uses, written, with_replaced, variable_rank, substituted}
 use Rattle.cake_base.specs.declared.rules.Fault.{Fault}
-use Rattle.c_model.specs.Expansion.{Answer, Stop, broken, passed, MADE, Expands, Fills}
-use Rattle.c_model.specs.ExpansionRules.{object_call, Expands-object, Expands-call, Expands-open, Expands-count}
-use Rattle.c_model.specs.ExpansionTotal.{call-length, arguments-weight}
-use Rattle.pp_macros.specs.declared.errors.MacroError.{MacroError}
-use Rattle.pp_macros.specs.declared.errors.MacroError.TheVariants as macro_error
+use Rattle.model_macros.specs.Expansion.{Answer, Stop, broken, passed, MADE, Expands, Fills}
+use Rattle.model_macros.specs.apparatus.ExpansionRules.{object_call, Expands-object, Expands-call, Expands-open, Expands-count}
+use Rattle.model_macros.specs.apparatus.ExpansionTotal.{call-length, arguments-weight}
+use Rattle.pp_definitions.specs.declared.errors.MacroError.{MacroError}
+use Rattle.pp_definitions.specs.declared.errors.MacroError.TheVariants as macro_error
 use Rattle.pp_macros.specs.Machine.{Waiting, Called, CallParts, Shown, Refused, Begins, Expanded, from_wanted, Gives, GoesOn, Finishes, Stops, waiting_weight, all_weight, left}
-use Rattle.c_model.specs.Pasting.{fresh}
-use Rattle.c_model.specs.ExpansionFunction.{expand-only}
-use Rattle.pp_macros.proofs.HeadingLaws.{drop-get}
+use Rattle.model_macros.specs.Pasting.{fresh}
+use Rattle.model_macros.specs.ExpansionFunction.{expand-only}
+use Rattle.pp_definitions.proofs.HeadingLaws.{drop-get}
 use Rattle.pp_macros.proofs.MachineLaws.{all_done, resumed, lighter, with_front-nil, Ends-stopped, unreplaced-weight, asking, asks, goes_body, goes_stopped, wanted-first, wanted-unreplaced, lighter_by}
 
 pub asking-lighter : (f : Waiting) (fs : List Waiting) (u : Use) (us : List Use) → from_wanted f.args (variable_rank f.call.def) f.uses ≡ u ∷ us →
@@ -198,26 +198,12 @@ function-begins table p ps out n m names w s kind c = (
 
 -- ---- steps
 
-pub next-gives : (table : Macros) (p : Painted) (ps out : Run) (w : Waiting) (fs calls : List Waiting) (pending after : Run) (made more : ℕ) → Begins table p ps out w →
-    ((a : Answer) → Gives table calls pending after more a → GoesOn table w fs made a) → (a : Answer) → Gives table calls pending after more a → Gives table fs (p ∷ ps) out made a
-next-gives table p ps out w fs calls pending after made more b go a g = b.0 fs made a (go a g)
-
-pub next-stops : (table : Macros) (p : Painted) (ps out : Run) (w : Waiting) (fs : List Waiting) (made more : ℕ) (e : MacroError) → Begins table p ps out w →
-    Stops (GoesOn table w fs made) e more → Stops (Gives table fs (p ∷ ps) out made) e more
-next-stops table p ps out w fs made more e b h = Stops-map (GoesOn table w fs made) (Gives table fs (p ∷ ps) out made) e more (λ x g. b.0 fs made (Err x) g) h
-
 pub resumed-stops : (table : Macros) (f : Waiting) (fs : List Waiting) (out : Run) (made more : ℕ) (e : MacroError) →
     Stops (GoesOn table (record f { args = with_replaced f.args f.rank out }) fs made) e more → Stops (Gives table (f ∷ fs) [] out made) e more
 resumed-stops table f fs out made more e h = Stops-map (GoesOn table (record f { args = with_replaced f.args f.rank out }) fs made) (Gives table (f ∷ fs) [] out made) e more (λ x g. resumed table f fs out made (Err x) g) h
 
-pub resumed-shrinks : (f : Waiting) (fs : List Waiting) (out : Run) (made more : ℕ) (n : ℕ) → left more n < left made (waiting_weight (record f { args = with_replaced f.args f.rank out }) + all_weight fs) → left more n < left made (0 + (waiting_weight f + all_weight fs))
-resumed-shrinks f fs out made more n h = let l = lighter f.args f.rank out in omega (arith, h, l)
-
 pub whole : (table : Macros) (run : Run) (made : ℕ) (a : Answer) → Gives table [] run [] made a → Expands table run made a
 whole table run made a g = subst (λ (z : Answer). Expands table run made z) (sym (with_front-nil g.inner) ∙ sym g.ends) g.expands
-
-pub whole-stops : (table : Macros) (run : Run) (made more : ℕ) (e : MacroError) → Stops (Gives table [] run [] made) e more → Stops (Expands table run made) e more
-whole-stops table run made more e h = Stops-map (Gives table [] run [] made) (Expands table run made) e more (λ x g. whole table run made (Err x) g) h
 
 pub done_at : (table : Macros) (calls : List Waiting) (pending out : Run) (made : ℕ) → calls ≡ [] → pending ≡ [] → Gives table calls pending out made (Ok (out, made))
 done_at table calls pending out made p q =

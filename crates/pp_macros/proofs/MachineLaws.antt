@@ -1,11 +1,11 @@
 -- The steps of a replacement.
 use Rattle.std.proofs.Common.{◌≡◌, ℕ, zero, suc, ◌+◌, ◌≤◌, Bool, true, false, not, ◌&&◌, ◌||◌, max, List, [], ◌∷◌, ◌++◌, length, map, Option, Some, None, Ok, Err, refl, ap, subst, sym, ◌∙◌, arith, cond, append_assoc, append-nil, slice_get, slice_set}
-use Rattle.c_model.specs.Macros.{Macros}
-use Rattle.c_model.specs.MacroArguments.{Painted, Run}
-use Rattle.c_model.specs.Substitution.{Argument, Use, unreplaced, written, with_run, with_replaced, variable_rank, wanted, waits, is_unreplaced, varies, substituted}
-use Rattle.c_model.specs.Expansion.{Answer, Stop, MADE, Call, Expands, Fills}
-use Rattle.c_model.specs.ExpansionRules.{with_front, Fills-body, Fills-other, Fills-stopped, Fills-next, Expands-nil, Stays}
-use Rattle.c_model.specs.ExpansionTotal.{weight}
+use Rattle.model_macros.specs.Macros.{Macros}
+use Rattle.model_macros.specs.MacroArguments.{Painted, Run}
+use Rattle.model_macros.specs.Substitution.{Argument, Use, unreplaced, written, with_run, with_replaced, variable_rank, wanted, waits, is_unreplaced, varies, substituted}
+use Rattle.model_macros.specs.Expansion.{Answer, Stop, MADE, Call, Expands, Fills}
+use Rattle.model_macros.specs.apparatus.ExpansionRules.{with_front, Fills-body, Fills-other, Fills-stopped, Fills-next, Expands-nil, Stays}
+use Rattle.model_macros.specs.apparatus.ExpansionTotal.{weight}
 use Rattle.pp_macros.specs.Machine.{Waiting, from_wanted, Ends, Gives, GoesOn, argument_weight, arguments_weight}
 
 -- ---- answers

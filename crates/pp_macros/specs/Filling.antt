@@ -1,11 +1,11 @@
 -- A replacement list, put together token by token.
 use Rattle.std.specs.Prelude.{true, false, [], ◌∷◌, Option, Some, None}
-use Rattle.c_model.specs.declared.macros.Role.{Role}
-use Rattle.c_model.specs.declared.macros.Role.TheVariants.{Plain, Paste, Replaced, Written, Quoted, Operand, Optional, QuotedOptional, OptionalOperand, Open, Close, File, Line}
-use Rattle.c_model.specs.PpTokens.{PpToken}
-use Rattle.c_model.specs.MacroArguments.{Run}
-use Rattle.c_model.specs.Pasting.{fresh, headed, or_placemarker, string_of, file_token, line_token}
-use Rattle.c_model.specs.Substitution as spec
+use Rattle.model_macros.specs.declared.macros.Role.{Role}
+use Rattle.model_macros.specs.declared.macros.Role.TheVariants.{Plain, Paste, Replaced, Written, Quoted, Operand, Optional, QuotedOptional, OptionalOperand, Open, Close, File, Line}
+use Rattle.model_tokens.specs.PpTokens.{PpToken}
+use Rattle.model_macros.specs.MacroArguments.{Run}
+use Rattle.model_macros.specs.Pasting.{fresh, headed, or_placemarker, string_of, file_token, line_token}
+use Rattle.model_macros.specs.Substitution as spec
 use Rattle.pp_macros.specs.declared.substitution.Source.{Source}
 
 -- what the code reads from, as the definition has it

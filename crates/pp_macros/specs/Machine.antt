@@ -1,18 +1,18 @@
 -- The state of a replacement: a list that is worked through, and the calls that wait for it.
 use Rattle.std.specs.Prelude.{◌≡◌, ℕ, ◌+◌, ◌-◌, ◌*◌, ◌<◌, ◌≤◌, true, false, max, if◌then◌else◌, List, [], ◌∷◌, length, map, drop, ◌⊎◌, Some, None, Result, Ok, Err}
 use Rattle.cake_base.specs.declared.places.Place.{Place}
-use Rattle.c_model.specs.PpTokens.{PpToken}
-use Rattle.c_model.specs.HideSets.{holds}
-use Rattle.c_model.specs.Macros.{Macro, Macros, ranked}
-use Rattle.c_model.specs.MacroArguments.{Painted, Run, Inside, inside, placed, arguments, opens}
-use Rattle.c_model.specs.Pasting.{fresh}
-use Rattle.c_model.specs.Substitution.{Argument, Use, unreplaced, uses, with_replaced, wanted, waits, substituted}
-use Rattle.c_model.specs.Expansion.{Answer, broken, passed, MADE, Call, Expands, Fills}
-use Rattle.c_model.specs.ExpansionRules.{with_front, function_call}
-use Rattle.c_model.specs.ExpansionFunction.{expand}
-use Rattle.pp_macros.specs.declared.errors.MacroError.{MacroError}
-use Rattle.pp_macros.specs.declared.errors.MacroError.TheVariants as macro_error
-use Rattle.pp_macros.specs.Answers.{rule_at}
+use Rattle.model_tokens.specs.PpTokens.{PpToken}
+use Rattle.model_macros.specs.HideSets.{holds}
+use Rattle.model_macros.specs.Macros.{Macro, Macros, ranked}
+use Rattle.model_macros.specs.MacroArguments.{Painted, Run, Inside, inside, placed, arguments, opens}
+use Rattle.model_macros.specs.Pasting.{fresh}
+use Rattle.model_macros.specs.Substitution.{Argument, Use, unreplaced, uses, with_replaced, wanted, waits, substituted}
+use Rattle.model_macros.specs.Expansion.{Answer, broken, passed, MADE, Call, Expands, Fills}
+use Rattle.model_macros.specs.apparatus.ExpansionRules.{with_front, function_call}
+use Rattle.model_macros.specs.ExpansionFunction.{expand}
+use Rattle.pp_definitions.specs.declared.errors.MacroError.{MacroError}
+use Rattle.pp_definitions.specs.declared.errors.MacroError.TheVariants as macro_error
+use Rattle.pp_definitions.specs.Answers.{rule_at}
 
 -- a call that waits for one of its arguments: what it still asks for, the rank of the argument that is
 -- replaced now, and what stands before the call

@@ -1,7 +1,7 @@
 -- A step of a replacement, from one state to the next.
 use Rattle.std.specs.Prelude.{◌≡◌, ℕ, ◌+◌, ◌<◌, length, Ok}
-use Rattle.c_model.specs.Macros.{Macros}
-use Rattle.c_model.specs.Expansion.{Answer}
+use Rattle.model_macros.specs.Macros.{Macros}
+use Rattle.model_macros.specs.Expansion.{Answer}
 use Rattle.pp_macros.specs.declared.expansion.State.{State}
 use Rattle.pp_macros.specs.declared.expansion.Progress.{Progress}
 use Rattle.pp_macros.specs.declared.expansion.Progress.TheVariants.{Done, More}

@@ -1,17 +1,13 @@
 //! The arguments of a macro call.
 ghost use Rattle.std.specs.Prelude.{◌≡◌, ◌++◌, [], ◌∷◌, ◌+◌, ◌<◌, ◌≤◌, ◌&&◌, ◌==◌, nat_lt, if◌then◌else◌, length, map, IfOk, MatchOption, Some, None};
-ghost use Rattle.c_model.specs.MacroArguments as spec;
-ghost use Rattle.c_model.specs.MacroDefinitions as definitions;
-ghost use Rattle.c_model.specs.Macros as macros;
-ghost use Rattle.c_model.specs.ReplacementLists as lists;
+ghost use Rattle.model_macros.specs.MacroArguments as spec;
+ghost use Rattle.model_macros.specs.MacroDefinitions as definitions;
+ghost use Rattle.model_macros.specs.Macros as macros;
+ghost use Rattle.model_macros.specs.ReplacementLists as lists;
 
-use crate::definition::MacroDef;
 use crate::hides::Painted;
-use crate::names::Names;
-use crate::pieces::deeper;
-use crate::rows::{Row, Stack};
-use crate::spelling::spells;
 use cake_base::{NoMemory, Place};
+use pp_definitions::{MacroDef, Names, Row, Stack, deeper, spells};
 use std::alloc::Global;
 
 /// Whether a parenthesis stands at the front.

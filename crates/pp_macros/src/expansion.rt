@@ -1,29 +1,27 @@
 //! Macro replacement by hide sets.
 ghost use Rattle.std.specs.Prelude.{◌≡◌, ◌++◌, ◌∷◌, [], ℕ, List, ◌+◌, ◌<◌, ◌≤◌, length, map, drop, true, false, IfOk, IfErr, MatchOption, Some, None};
-ghost use Rattle.c_model.specs.Expansion as expansion;
-ghost use Rattle.c_model.specs.HideSets as hide_sets;
-ghost use Rattle.c_model.specs.Macros as macros;
-ghost use Rattle.c_model.specs.MacroArguments as arguments;
-ghost use Rattle.c_model.specs.Pasting as pasting;
-ghost use Rattle.c_model.specs.Substitution as substitution;
-ghost use Rattle.c_model.specs.MacroDefinitions as definitions;
+ghost use Rattle.model_macros.specs.Expansion as expansion;
+ghost use Rattle.model_macros.specs.HideSets as hide_sets;
+ghost use Rattle.model_macros.specs.Macros as macros;
+ghost use Rattle.model_macros.specs.MacroArguments as arguments;
+ghost use Rattle.model_macros.specs.Pasting as pasting;
+ghost use Rattle.model_macros.specs.Substitution as substitution;
+ghost use Rattle.model_macros.specs.MacroDefinitions as definitions;
 ghost use Rattle.pp_macros.specs.Machine as machine;
 ghost use Rattle.pp_macros.specs.Machine.{Charges, Finishes, Stops, Gives, GoesOn, Expanded, Shown, Called, CallParts, Refused, Begins, Answers, from_wanted, waiting_weight, all_weight, left};
 ghost use Rattle.pp_macros.specs.Progress.{Progresses, From};
-ghost use Rattle.c_model.specs.ExpansionRules.{Stays};
-ghost use Rattle.c_model.specs.ExpansionRules as rules;
+ghost use Rattle.model_macros.specs.apparatus.ExpansionRules.{Stays};
+ghost use Rattle.model_macros.specs.apparatus.ExpansionRules as rules;
 
 use crate::arguments::{count_of, inside, opens, split};
-use crate::definition::{MacroDef, fault};
-use crate::errors::MacroError;
 use crate::hides::{Hides, Painted};
-use crate::rows::{Row, Stack};
+use crate::rules::{CALL_NOT_ENDED, NO_SINGLE_TOKEN, WRONG_NUMBER_OF_ARGUMENTS};
 use crate::substitution::{
     Argument, Use, copied, is_wanted, set_replaced, substituted, unreplaced, uses, written,
 };
-use crate::table::MacroTable;
 use c_tokens::{PpList, PpTok};
 use cake_base::{Limit, LimitHit, NoMemory, Place};
+use pp_definitions::{MacroDef, MacroError, MacroTable, Row, Stack, fault};
 use std::alloc::Global;
 use std::marker::Model;
 
@@ -103,7 +101,7 @@ fn finish(
     ensures { (rest : arguments.Run) → Finishes table.now (record { name = name.now; hides = hides.now; def = def.now; rest = rest }) args.now made.old result made.new }
 {
     let Some(body) = substituted(alloc, table, name, hides, def, args)? else {
-        return Err(fault(name.place, 5));
+        return Err(fault(name.place, NO_SINGLE_TOKEN));
     };
     charge(made, body.len(), name.place)?;
     Ok(body)
@@ -234,10 +232,10 @@ fn parts_of_call(
     let _ = pending.pop();
     let place = place_of(p);
     let Some((run, close)) = inside(alloc, place, &mut pending)? else {
-        return Err(fault(place, 7));
+        return Err(fault(place, CALL_NOT_ENDED));
     };
     let Some(runs) = split(alloc, def, run)? else {
-        return Err(fault(place, 6));
+        return Err(fault(place, WRONG_NUMBER_OF_ARGUMENTS));
     };
     Ok((runs, close, pending))
 }

@@ -1,8 +1,8 @@
 //! Hide sets, and tokens that have one.
 ghost use Rattle.std.specs.Prelude.{◌≡◌, ◌++◌, [], ◌∷◌, IfOk, OnOk};
-ghost use Rattle.c_model.specs.HideSets as spec;
-ghost use Rattle.c_model.specs.MacroArguments as arguments;
-ghost use Rattle.c_model.specs.Pasting as pasting;
+ghost use Rattle.model_macros.specs.HideSets as spec;
+ghost use Rattle.model_macros.specs.MacroArguments as arguments;
+ghost use Rattle.model_macros.specs.Pasting as pasting;
 
 use c_tokens::PpTok;
 use cake_base::NoMemory;
@@ -114,7 +114,7 @@ pub struct Painted {
 }
 
 impl Model for Painted {
-    ghost use Rattle.c_model.specs.MacroArguments as arguments;
+    ghost use Rattle.model_macros.specs.MacroArguments as arguments;
 
     ghost Value = { arguments.Painted };
 

@@ -1,26 +1,14 @@
-//! Macros: their definitions, the table of them, and their replacement by hide sets.
+//! Replacement of macros by hide sets.
 #![tactic(auto)]
 
 mod arguments;
-mod constraints;
-mod definition;
-mod errors;
 mod expansion;
-mod heading;
 mod hides;
-mod names;
 mod pasting;
-mod pieces;
-mod rows;
-mod spelling;
+mod rules;
 mod substitution;
-mod table;
 
-pub use constraints::is_reserved;
-pub use definition::{MacroDef, read_macro};
-pub use errors::MacroError;
 pub use expansion::{Work, expand};
-pub use table::MacroTable;
-
-#[cfg(test)]
-mod tests;
+pub use pp_definitions::{
+    MacroDef, MacroError, MacroTable, is_name, is_reserved, read_macro, spells,
+};

@@ -1,15 +1,15 @@
 //! Tokens that `#`, `##`, `__FILE__` and `__LINE__` make.
 ghost use Rattle.std.specs.Prelude.{◌≡◌, ◌++◌, [], ◌∷◌, ◌<◌, length, decimal, if◌then◌else◌, IfOk, OnOk, Some, None};
 ghost use Rattle.std.specs.List.{flat_map};
-ghost use Rattle.c_model.specs.MacroArguments.{is_nil};
-ghost use Rattle.c_model.specs.Macros as macros;
-ghost use Rattle.c_model.specs.Pasting as spec;
+ghost use Rattle.model_macros.specs.MacroArguments.{is_nil};
+ghost use Rattle.model_types.specs.Texts as texts;
+ghost use Rattle.model_macros.specs.Pasting as spec;
 
 use crate::hides::Painted;
-use crate::rows::{Row, Stack};
 use c_tokens::{PpKind, PpList, PpTok, TokenError, pp_tokens};
 use cake_base::{Bytes, NoMemory};
 use itoa::Buffer;
+use pp_definitions::{Row, Stack};
 use std::alloc::Global;
 
 /// The kind of the one token that the text is, if it is one token.
@@ -41,7 +41,7 @@ fn alone(list: &PpList, text: &[u8]) -> Option<PpKind>
 
 /// The kind of the token, if it is spelled like that.
 fn kind_of(tok: &PpTok, text: &[u8]) -> Option<PpKind>
-    ensures { result ≡ (if macros.same_text tok.now.spelling text.now then Some tok.now.kind else None) }
+    ensures { result ≡ (if texts.same_text tok.now.spelling text.now then Some tok.now.kind else None) }
 {
     if tok.spelling() == text {
         Some(tok.kind)

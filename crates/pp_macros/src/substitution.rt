@@ -1,25 +1,21 @@
 //! What stands in the place of a macro call: its replacement list with its arguments put in.
 ghost use Rattle.std.specs.Prelude.{◌≡◌, ◌++◌, [], ◌∷◌, ◌&&◌, ◌||◌, not, length, map, slice_get, true, false, IfOk, MatchOption, Some, None};
 ghost use Rattle.std.specs.Option.{option_copied};
-ghost use Rattle.c_model.specs.MacroDefinitions as definitions;
-ghost use Rattle.c_model.specs.ReplacementLists as lists;
-ghost use Rattle.c_model.specs.Substitution as spec;
+ghost use Rattle.model_macros.specs.MacroDefinitions as definitions;
+ghost use Rattle.model_macros.specs.ReplacementLists as lists;
+ghost use Rattle.model_macros.specs.Substitution as spec;
 ghost use Rattle.pp_macros.specs.Filling.{source_of, operand_of, operator_taken};
 
 use crate::arguments::count_of;
-use crate::constraints::is_close;
-use crate::definition::MacroDef;
 use crate::hides::{Hides, Painted};
 use crate::pasting::{
     begun, file_token, headed, line_token, or_placemarker, pasted_runs, string_of,
     without_placemarkers,
 };
-use crate::pieces::Piece;
-use crate::rows::{Row, Stack};
-use crate::table::MacroTable;
-use c_model::macros::Role;
 use c_tokens::PpTok;
 use cake_base::{NoMemory, Place};
+use model_macros::macros::Role;
+use pp_definitions::{MacroDef, MacroTable, Piece, Row, Stack, is_close};
 use std::alloc::Global;
 use std::marker::Model;
 
@@ -31,7 +27,7 @@ pub struct Argument {
 }
 
 impl Model for Argument {
-    ghost use Rattle.c_model.specs.Substitution as spec;
+    ghost use Rattle.model_macros.specs.Substitution as spec;
 
     ghost Value = { spec.Argument };
 
@@ -46,7 +42,7 @@ pub struct Use {
 }
 
 impl Model for Use {
-    ghost use Rattle.c_model.specs.Substitution as spec;
+    ghost use Rattle.model_macros.specs.Substitution as spec;
 
     ghost Value = { spec.Use };
 
@@ -172,7 +168,7 @@ struct Group {
 }
 
 impl Model for Group {
-    ghost use Rattle.c_model.specs.Substitution as spec;
+    ghost use Rattle.model_macros.specs.Substitution as spec;
 
     ghost Value = { spec.Group };
 
@@ -188,7 +184,7 @@ struct Filling {
 }
 
 impl Model for Filling {
-    ghost use Rattle.c_model.specs.Substitution as spec;
+    ghost use Rattle.model_macros.specs.Substitution as spec;
 
     ghost Value = { spec.Filling };
 

@@ -1,11 +1,2 @@
-pub mod DeclaratorLists
-pub mod EnumeratorLists
-pub mod InitDeclaratorLists
-pub mod IterationLaws
-pub mod MemberLists
-pub mod ParameterLists
-pub mod PointerLists
-pub mod RightSideLaws
-pub mod SpecLists
-pub mod StatementLists
-pub mod SuffixLists
+pub mod ExternalLists
+pub mod Refusals

@@ -1,4 +1,1 @@
-pub mod Beginnings
-pub mod Found
-pub mod Meanings
-pub mod RightSides
+pub mod Units

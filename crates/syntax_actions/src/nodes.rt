@@ -1,25 +1,19 @@
 //! What the productions make of their symbols.
 ghost use Rattle.std.specs.Prelude.{◌≡◌, IfOk};
-ghost use Rattle.c_model.specs.SyntaxActions as actions;
-ghost use Rattle.c_model.specs.SyntaxActions.{node_value, unit_in};
-ghost use Rattle.c_model.specs.SyntaxValues as v;
-ghost use Rattle.syntax_actions.specs.Meanings.{meaning_of, meanings_seen, value_seen, values_seen};
-ghost use Rattle.syntax_actions.specs.RightSides.{unit_seen};
+ghost use Rattle.model_grammar.specs.SyntaxActions as actions;
+ghost use Rattle.model_grammar.specs.SyntaxActions.{node_value, unit_in};
+ghost use Rattle.model_grammar.specs.SyntaxValues as v;
+ghost use Rattle.syntax_meanings.specs.Meanings.{meaning_of, symbols_seen, value_seen, values_seen};
+ghost use Rattle.syntax_actions.specs.Units.{unit_seen};
 
-use crate::meanings::{Meaning, Value, discard};
-use crate::right_sides::{RightSide, right_side, span_or};
-use crate::symbols::Symbols;
-use crate::{
-    blocks, declarations, declarators, enumerations, expressions, initializers, iterations,
-    operands, parameters, postfix, primary, selections, specifiers, statements, structures,
-    suffixes, units,
-};
-use c_model::grammar::Rule;
-use c_model::marks::Span;
+use crate::units;
 use c_tree::{Tree, TreeForm};
 use cake_base::NoMemory;
+use model_grammar::grammar::Rule;
+use model_types::marks::Span;
 use sqlite_items::Items;
 use std::alloc::Global;
+use syntax_meanings::{Meaning, RightSide, Symbols, Value, right_side, span_or};
 
 /// Attributes.
 fn nothing<'t>(_symbols: Symbols<'t>) -> Result<Meaning<'t>, NoMemory>
@@ -36,68 +30,68 @@ fn action<'t>(
     bare: Span,
     symbols: Symbols<'t>,
 ) -> Result<Meaning<'t>, NoMemory>
-    ensures { IfOk result (λ made. meaning_of made ≡ actions.action rule all bare (meanings_seen symbols.entry)) }
+    ensures { IfOk result (λ made. meaning_of made ≡ actions.action rule all bare (symbols_seen symbols.entry)) }
 {
     match rule {
         Rule::Unit => units::unit_of_externals(alloc, symbols),
         Rule::External => Ok(units::external(symbols)),
         Rule::Function => units::function_definition(alloc, symbols),
-        Rule::Declaration => declarations::declaration(alloc, symbols),
-        Rule::Sassert => declarations::static_assertion(alloc, symbols),
+        Rule::Declaration => declaration_actions::declaration(alloc, symbols),
+        Rule::Sassert => declaration_actions::static_assertion(alloc, symbols),
         Rule::Attrs => nothing(symbols),
         Rule::Attr => nothing(symbols),
-        Rule::Specs => specifiers::specs(alloc, symbols),
-        Rule::Spec => Ok(specifiers::one_spec(symbols)),
-        Rule::Storage => Ok(specifiers::storage_spec(symbols)),
-        Rule::Typespec => specifiers::type_spec(alloc, symbols),
-        Rule::Qual => Ok(specifiers::qualified(symbols)),
-        Rule::Squals => specifiers::specs(alloc, symbols),
-        Rule::Struct => structures::structure(alloc, symbols),
-        Rule::Members => structures::members(alloc, symbols),
-        Rule::Member => structures::member_declaration(alloc, symbols),
-        Rule::Enum => enumerations::enumeration(alloc, symbols),
-        Rule::Enumr => enumerations::enumerator(alloc, symbols),
-        Rule::Declarator => declarators::declarator(alloc, symbols),
-        Rule::Direct => declarators::direct(alloc, symbols),
-        Rule::Suffix => suffixes::suffix(alloc, symbols),
-        Rule::Params => parameters::parameters(alloc, symbols),
-        Rule::Param => parameters::parameter(alloc, all.first, symbols),
-        Rule::Typename => declarators::type_name(alloc, symbols),
-        Rule::Abstract => declarators::declarator(alloc, symbols),
-        Rule::Adirect => declarators::direct(alloc, symbols),
-        Rule::Initdecl => declarations::init_declarator(alloc, symbols),
-        Rule::Init => initializers::initializer(alloc, symbols),
-        Rule::Braces => initializers::braces(alloc, symbols),
-        Rule::Item => initializers::item(alloc, symbols),
-        Rule::Desig => initializers::designator(alloc, symbols),
-        Rule::Block => blocks::block(alloc, bare, symbols),
-        Rule::Label => Ok(blocks::label(symbols)),
-        Rule::Statement => statements::statement(alloc, bare, symbols),
-        Rule::Expr => expressions::chained(alloc, symbols),
-        Rule::Assign => expressions::assigned(alloc, symbols),
-        Rule::Cond => operands::conditional(alloc, symbols),
-        Rule::Oror => expressions::chained(alloc, symbols),
-        Rule::Andand => expressions::chained(alloc, symbols),
-        Rule::Bor => expressions::chained(alloc, symbols),
-        Rule::Bxor => expressions::chained(alloc, symbols),
-        Rule::Band => expressions::chained(alloc, symbols),
-        Rule::Equal => expressions::chained(alloc, symbols),
-        Rule::Rel => expressions::chained(alloc, symbols),
-        Rule::Shift => expressions::chained(alloc, symbols),
-        Rule::Sum => expressions::chained(alloc, symbols),
-        Rule::Product => expressions::chained(alloc, symbols),
-        Rule::Cast => operands::cast(alloc, symbols),
-        Rule::Unary => operands::unary(alloc, symbols),
-        Rule::Postfix => postfix::postfixed(alloc, symbols),
-        Rule::Primary => primary::primary(alloc, symbols),
-        Rule::Literal => primary::literal(alloc, symbols),
+        Rule::Specs => declaration_actions::specs(alloc, symbols),
+        Rule::Spec => Ok(declaration_actions::one_spec(symbols)),
+        Rule::Storage => Ok(declaration_actions::storage_spec(symbols)),
+        Rule::Typespec => declaration_actions::type_spec(alloc, symbols),
+        Rule::Qual => Ok(declaration_actions::qualified(symbols)),
+        Rule::Squals => declaration_actions::specs(alloc, symbols),
+        Rule::Struct => declaration_actions::structure(alloc, symbols),
+        Rule::Members => declaration_actions::members(alloc, symbols),
+        Rule::Member => declaration_actions::member_declaration(alloc, symbols),
+        Rule::Enum => declaration_actions::enumeration(alloc, symbols),
+        Rule::Enumr => declaration_actions::enumerator(alloc, symbols),
+        Rule::Declarator => declaration_actions::declarator(alloc, symbols),
+        Rule::Direct => declaration_actions::direct(alloc, symbols),
+        Rule::Suffix => declaration_actions::suffix(alloc, symbols),
+        Rule::Params => declaration_actions::parameters(alloc, symbols),
+        Rule::Param => declaration_actions::parameter(alloc, all.first, symbols),
+        Rule::Typename => declaration_actions::type_name(alloc, symbols),
+        Rule::Abstract => declaration_actions::declarator(alloc, symbols),
+        Rule::Adirect => declaration_actions::direct(alloc, symbols),
+        Rule::Initdecl => declaration_actions::init_declarator(alloc, symbols),
+        Rule::Init => declaration_actions::initializer(alloc, symbols),
+        Rule::Braces => declaration_actions::braces(alloc, symbols),
+        Rule::Item => declaration_actions::item(alloc, symbols),
+        Rule::Desig => declaration_actions::designator(alloc, symbols),
+        Rule::Block => statement_actions::block(alloc, bare, symbols),
+        Rule::Label => Ok(statement_actions::label(symbols)),
+        Rule::Statement => statement_actions::statement(alloc, bare, symbols),
+        Rule::Expr => expression_actions::chained(alloc, symbols),
+        Rule::Assign => expression_actions::assigned(alloc, symbols),
+        Rule::Cond => expression_actions::conditional(alloc, symbols),
+        Rule::Oror => expression_actions::chained(alloc, symbols),
+        Rule::Andand => expression_actions::chained(alloc, symbols),
+        Rule::Bor => expression_actions::chained(alloc, symbols),
+        Rule::Bxor => expression_actions::chained(alloc, symbols),
+        Rule::Band => expression_actions::chained(alloc, symbols),
+        Rule::Equal => expression_actions::chained(alloc, symbols),
+        Rule::Rel => expression_actions::chained(alloc, symbols),
+        Rule::Shift => expression_actions::chained(alloc, symbols),
+        Rule::Sum => expression_actions::chained(alloc, symbols),
+        Rule::Product => expression_actions::chained(alloc, symbols),
+        Rule::Cast => expression_actions::cast(alloc, symbols),
+        Rule::Unary => expression_actions::unary(alloc, symbols),
+        Rule::Postfix => expression_actions::postfixed(alloc, symbols),
+        Rule::Primary => expression_actions::primary(alloc, symbols),
+        Rule::Literal => expression_actions::literal(alloc, symbols),
         Rule::Balanced => nothing(symbols),
         Rule::Declared => Ok(units::alone(symbols)),
         Rule::ParamSpecs => Ok(units::alone(symbols)),
         Rule::Body => Ok(units::alone(symbols)),
-        Rule::Typeof => Ok(specifiers::type_of_operand(symbols)),
-        Rule::If => selections::if_statement(alloc, bare, symbols),
-        Rule::For => iterations::for_statement(alloc, bare, symbols),
+        Rule::Typeof => Ok(declaration_actions::type_of_operand(symbols)),
+        Rule::If => statement_actions::if_statement(alloc, bare, symbols),
+        Rule::For => statement_actions::for_statement(alloc, bare, symbols),
     }
 }
 
@@ -126,7 +120,7 @@ pub fn unit(alloc: Global, value: Value<'_>) -> Result<Option<Tree>, NoMemory>
             Ok(Some(tree))
         }
         other => {
-            discard(other);
+            drop(other);
             Ok(None)
         }
     }

@@ -1,5 +1,5 @@
 use Rattle.std.proofs.Common.{ap, sym, subst, ◌∙◌}
-use Rattle.syntax_actions.specs.RightSides.{unit_seen}
+use Rattle.syntax_actions.specs.Units.{unit_seen}
 use Rattle.c_parser.specs.Parsing.{IsUnitValue}
 use Rattle.c_parser.proofs.CallValues.{never_none}
 use Rattle.c_parser.proofs.calls.parse.Goals as goal

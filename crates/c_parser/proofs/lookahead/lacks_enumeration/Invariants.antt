@@ -1,6 +1,6 @@
 use Rattle.std.specs.Prelude.{◌≡◌, ◌≤◌, ◌+◌, ◌^◌, length, true}
-use Rattle.c_model.specs.declared.grammar.Within.TheVariants.{Between}
-use Rattle.c_model.specs.ParserTests.{lacks_enumeration, within}
+use Rattle.model_grammar.specs.declared.grammar.Within.TheVariants.{Between}
+use Rattle.grammar_laws.specs.ParserTests.{lacks_enumeration, within}
 use Rattle.c_parser.proofs.lookahead.lacks_enumeration.Given as goal
 
 abbrev pub invariant-loop-first : goal.invariant-loop-first

@@ -1,6 +1,6 @@
 use Rattle.std.specs.Prelude.{◌≡◌, ◌≤◌, ◌+◌, length}
-use Rattle.c_model.specs.declared.grammar.Before.TheVariants.{AtStart}
-use Rattle.c_model.specs.ParserTests.{names_declarator, opened}
+use Rattle.model_grammar.specs.declared.grammar.Before.TheVariants.{AtStart}
+use Rattle.grammar_laws.specs.ParserTests.{names_declarator, opened}
 use Rattle.c_parser.proofs.lookahead.names_declarator.Given as goal
 
 abbrev pub invariant-loop-first : goal.invariant-loop-first

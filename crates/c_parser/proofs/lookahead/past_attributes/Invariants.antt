@@ -1,5 +1,5 @@
 use Rattle.std.specs.Prelude.{◌≡◌, ◌≤◌, ◌+◌, length}
-use Rattle.c_model.specs.ParserTests.{past_attributes}
+use Rattle.grammar_laws.specs.ParserTests.{past_attributes}
 use Rattle.c_parser.proofs.lookahead.past_attributes.Given as goal
 
 abbrev pub invariant-loop-first : goal.invariant-loop-first

@@ -1,6 +1,6 @@
 use Rattle.std.specs.Prelude.{◌≡◌, ◌≤◌, ◌+◌, length}
-use Rattle.c_model.specs.declared.grammar.Within.TheVariants.{Between}
-use Rattle.c_model.specs.ParserTests.{past_specifiers, within}
+use Rattle.model_grammar.specs.declared.grammar.Within.TheVariants.{Between}
+use Rattle.grammar_laws.specs.ParserTests.{past_specifiers, within}
 use Rattle.c_parser.proofs.lookahead.past_specifiers.Given as goal
 
 abbrev pub invariant-loop-first : goal.invariant-loop-first

@@ -1,8 +1,8 @@
 use Rattle.std.proofs.Common.{ap, sym, subst, ◌∙◌}
 use Rattle.std.proofs.lemmas.Result.{err_from_is_err_and}
-use Rattle.c_model.specs.LeftWeights.{IsWalkable}
-use Rattle.c_model.proofs.TotalWalk.{rule_walkable, then_walkable, or_walkable, when_walkable, maybe_walkable, many_walkable, loop_walkable}
-use Rattle.syntax_actions.specs.Meanings.{values_seen}
+use Rattle.grammar_laws.specs.apparatus.LeftWeights.{IsWalkable}
+use Rattle.grammar_laws.proofs.walks.TotalWalk.{rule_walkable, then_walkable, or_walkable, when_walkable, maybe_walkable, many_walkable, loop_walkable}
+use Rattle.syntax_meanings.specs.Meanings.{values_seen}
 use Rattle.c_parser.specs.View.{form}
 use Rattle.c_parser.proofs.ReaderSteps.{then_told, first_told, left_told, right_told, take_told, chosen_told, other_told, none_told, skip_told, rule_told, rule_stops}
 use Rattle.c_parser.proofs.ReaderTurns.{unless_not, chain_turn, chain_stops, no_turn, one_turn, turn_stops, no_more_turns, one_again, again_stops, done_again, turn_shortens, again_shortens}

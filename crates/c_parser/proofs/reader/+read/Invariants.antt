@@ -1,8 +1,8 @@
 use Rattle.std.proofs.Common.{◌+◌, ◌*◌, length}
-use Rattle.c_model.specs.GrammarForm.{rule, many, loop}
-use Rattle.c_model.specs.LeftWeights.{weight}
+use Rattle.model_grammar.specs.GrammarForm.{rule, many, loop}
+use Rattle.grammar_laws.specs.apparatus.LeftWeights.{weight}
 use Rattle.c_parser.specs.View.{form}
-use Rattle.syntax_actions.specs.Meanings.{values_seen}
+use Rattle.syntax_meanings.specs.Meanings.{values_seen}
 use Rattle.c_parser.proofs.ReaderTurns.{Turning}
 use Rattle.c_parser.proofs.reader.+read.Given as goal
 

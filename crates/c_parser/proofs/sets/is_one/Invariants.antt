@@ -1,5 +1,5 @@
 use Rattle.std.specs.Prelude.{◌≡◌, drop}
-use Rattle.c_model.specs.GrammarForm.{mem}
+use Rattle.model_grammar.specs.GrammarForm.{mem}
 use Rattle.c_parser.proofs.sets.is_one.Given as goal
 
 abbrev pub invariant-loop-known : goal.invariant-loop-known

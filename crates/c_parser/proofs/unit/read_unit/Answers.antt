@@ -1,7 +1,7 @@
 use Rattle.std.proofs.Common.{ap, ◌∙◌, sym, arith, eqb-true}
 use Rattle.std.proofs.lemmas.Grind.{common_steps}
-use Rattle.c_model.specs.UnitSyntax.{unit}
-use Rattle.syntax_actions.specs.Meanings.{values_seen}
+use Rattle.grammar_laws.specs.UnitSyntax.{unit}
+use Rattle.syntax_meanings.specs.Meanings.{values_seen}
 use Rattle.c_parser.proofs.Parsed.{walkable, ok_whole, ok_more, err_fault, err_deep, read_le, fails_le, deep_le, told_fault, told_deep}
 use Rattle.c_parser.proofs.unit.read_unit.Goals as goal
 

@@ -1,6 +1,6 @@
 use Rattle.std.proofs.Common.{◌≡◌, ◌+◌, drop}
 use Rattle.std.specs.List.{prefix_len}
-use Rattle.c_model.specs.Digits.{is_digit_of}
+use Rattle.model_tokens.specs.Digits.{is_digit_of}
 use Rattle.c_tokens.proofs.characters.run.Given as goal
 
 abbrev pub invariant-loop-b : goal.invariant-loop-b

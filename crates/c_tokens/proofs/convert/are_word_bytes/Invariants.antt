@@ -1,5 +1,5 @@
 use Rattle.std.proofs.Common.{◌≡◌, drop}
-use Rattle.c_model.specs.CTokens.{are_word_bytes}
+use Rattle.model_tokens.specs.CTokens.{are_word_bytes}
 use Rattle.c_tokens.proofs.convert.are_word_bytes.Given as goal
 
 abbrev pub invariant-loop-b : goal.invariant-loop-b

@@ -1,9 +1,9 @@
 use Rattle.std.proofs.Common.{sym, ◌∙◌, ap}
 use Rattle.std.specs.Int.{w128}
 use Rattle.std.proofs.lemmas.Int.{to_z-of_z}
-use Rattle.c_model.specs.declared.numbers.Basic.TheVariants.{Int}
-use Rattle.c_model.specs.CTokens.{integer}
-use Rattle.c_model.specs.IntegerConstants.{constant_in, fitting}
+use Rattle.model_types.specs.declared.numbers.Basic.TheVariants.{Int}
+use Rattle.model_tokens.specs.CTokens.{integer}
+use Rattle.model_tokens.specs.IntegerConstants.{constant_in, fitting}
 use Rattle.c_tokens.proofs.convert.byte_constant.Goals as goal
 
 pub returns-in-Some : goal.returns-in-Some

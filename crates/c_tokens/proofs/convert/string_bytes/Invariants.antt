@@ -1,6 +1,6 @@
 use Rattle.std.proofs.Common.{◌≡◌, length}
-use Rattle.c_model.specs.Characters.{characters}
-use Rattle.c_model.specs.CTokens.{all_bytes}
+use Rattle.model_tokens.specs.Characters.{characters}
+use Rattle.model_tokens.specs.CTokens.{all_bytes}
 use Rattle.c_tokens.proofs.CharacterLaws.{before_all}
 use Rattle.c_tokens.proofs.convert.string_bytes.Given as goal
 

@@ -1,5 +1,5 @@
 use Rattle.std.proofs.Common.{◌≡◌, ◌+◌, ◌^◌, ◌<◌, length}
-use Rattle.c_model.specs.JoinedLines.{cells_from}
+use Rattle.model_tokens.specs.JoinedLines.{cells_from}
 use Rattle.c_tokens.proofs.cursor.next_of.Given as goal
 
 abbrev pub invariant-loop-text : goal.invariant-loop-text

@@ -1,5 +1,5 @@
 use Rattle.std.proofs.Common.{◌≡◌, drop, false}
-use Rattle.c_model.specs.Digits.{digits_from}
+use Rattle.model_tokens.specs.Digits.{digits_from}
 use Rattle.c_tokens.proofs.digits.are_digits.Given as goal
 
 abbrev pub invariant-loop-b : goal.invariant-loop-b

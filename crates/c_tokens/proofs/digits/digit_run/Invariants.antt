@@ -1,5 +1,5 @@
 use Rattle.std.proofs.Common.{◌≡◌, ◌+◌, drop}
-use Rattle.c_model.specs.Digits.{digit_run}
+use Rattle.model_tokens.specs.Digits.{digit_run}
 use Rattle.c_tokens.proofs.digits.digit_run.Given as goal
 
 abbrev pub invariant-loop-b : goal.invariant-loop-b

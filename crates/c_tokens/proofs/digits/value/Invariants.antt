@@ -1,5 +1,5 @@
 use Rattle.std.proofs.Common.{◌≡◌, ◌^◌, ◌≤◌, drop, min}
-use Rattle.c_model.specs.Digits.{value_from}
+use Rattle.model_tokens.specs.Digits.{value_from}
 use Rattle.c_tokens.proofs.digits.value.Given as goal
 
 abbrev pub invariant-loop-b : goal.invariant-loop-b

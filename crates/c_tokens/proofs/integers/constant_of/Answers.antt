@@ -1,8 +1,8 @@
 use Rattle.std.proofs.Common.{sym, ◌∙◌, ap, arith, ◌≡◌, ◌<◌, ◌^◌, true, min}
 use Rattle.std.specs.Int.{w128}
 use Rattle.std.proofs.lemmas.Int.{to_z_pos}
-use Rattle.c_model.specs.Digits.{are_digits, value_from}
-use Rattle.c_model.specs.IntegerConstants.{fitting}
+use Rattle.model_tokens.specs.Digits.{are_digits, value_from}
+use Rattle.model_tokens.specs.IntegerConstants.{fitting}
 use Rattle.c_tokens.proofs.FittingLaws.{constant_made}
 use Rattle.c_tokens.proofs.integers.constant_of.Goals as goal
 

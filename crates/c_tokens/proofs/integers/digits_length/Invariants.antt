@@ -1,6 +1,6 @@
 use Rattle.std.proofs.Common.{◌≡◌, ◌+◌, drop}
 use Rattle.std.specs.List.{prefix_len}
-use Rattle.c_model.specs.IntegerConstants.{is_before_suffix}
+use Rattle.model_tokens.specs.IntegerConstants.{is_before_suffix}
 use Rattle.c_tokens.proofs.integers.digits_length.Given as goal
 
 abbrev pub invariant-loop-b : goal.invariant-loop-b

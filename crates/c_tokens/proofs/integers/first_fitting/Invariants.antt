@@ -1,5 +1,5 @@
 use Rattle.std.proofs.Common.{◌≡◌, drop}
-use Rattle.c_model.specs.IntegerConstants.{first_fitting}
+use Rattle.model_tokens.specs.IntegerConstants.{first_fitting}
 use Rattle.c_tokens.proofs.integers.first_fitting.Given as goal
 
 abbrev pub invariant-loop-basic : goal.invariant-loop-basic

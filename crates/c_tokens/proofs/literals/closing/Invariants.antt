@@ -1,5 +1,5 @@
 use Rattle.std.proofs.Common.{◌≡◌, drop, false}
-use Rattle.c_model.specs.PpSteps.{closing, further}
+use Rattle.model_tokens.specs.PpSteps.{closing, further}
 use Rattle.c_tokens.proofs.literals.closing.Given as goal
 
 abbrev pub invariant-loop-b : goal.invariant-loop-b

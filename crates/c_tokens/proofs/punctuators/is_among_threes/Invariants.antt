@@ -1,5 +1,5 @@
 use Rattle.std.proofs.Common.{◌≡◌, [], ◌∷◌, drop, map}
-use Rattle.c_model.specs.Vocabulary.{stands_in}
+use Rattle.model_types.specs.Vocabulary.{stands_in}
 use Rattle.c_tokens.proofs.punctuators.is_among_threes.Given as goal
 
 abbrev pub invariant-loop-x : goal.invariant-loop-x

@@ -1,7 +1,7 @@
 use Rattle.std.proofs.Common.{◌≡◌, ◌+◌, length}
 use Rattle.std.specs.List.{prefix_len}
-use Rattle.c_model.specs.JoinedLines.{bytes}
-use Rattle.c_model.specs.PpSteps.{closing, further, is_in_line}
+use Rattle.model_tokens.specs.JoinedLines.{bytes}
+use Rattle.model_tokens.specs.PpSteps.{closing, further, is_in_line}
 use Rattle.c_tokens.proofs.scan.closing.Given as goal
 
 abbrev pub invariant-loop-cell : goal.invariant-loop-cell

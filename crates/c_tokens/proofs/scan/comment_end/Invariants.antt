@@ -1,6 +1,6 @@
 use Rattle.std.proofs.Common.{◌≡◌, ◌+◌, length}
-use Rattle.c_model.specs.JoinedLines.{bytes}
-use Rattle.c_model.specs.PpSteps.{comment_end, further}
+use Rattle.model_tokens.specs.JoinedLines.{bytes}
+use Rattle.model_tokens.specs.PpSteps.{comment_end, further}
 use Rattle.c_tokens.proofs.scan.comment_end.Given as goal
 
 abbrev pub invariant-loop-cell : goal.invariant-loop-cell

@@ -1,6 +1,6 @@
 use Rattle.std.proofs.Common.{◌≡◌, ◌+◌, length}
-use Rattle.c_model.specs.JoinedLines.{bytes}
-use Rattle.c_model.specs.PpSteps.{number_rest}
+use Rattle.model_tokens.specs.JoinedLines.{bytes}
+use Rattle.model_tokens.specs.PpSteps.{number_rest}
 use Rattle.c_tokens.proofs.scan.number_rest.Given as goal
 
 abbrev pub invariant-loop-cell : goal.invariant-loop-cell

@@ -1,6 +1,6 @@
 use Rattle.std.proofs.Common.{◌≡◌, ◌+◌, length}
 use Rattle.std.specs.List.{prefix_len}
-use Rattle.c_model.specs.JoinedLines.{bytes}
+use Rattle.model_tokens.specs.JoinedLines.{bytes}
 use Rattle.c_tokens.specs.Classes.{is_in}
 use Rattle.c_tokens.proofs.scan.span.Given as goal
 

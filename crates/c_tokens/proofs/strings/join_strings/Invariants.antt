@@ -1,5 +1,5 @@
 use Rattle.std.proofs.Common.{◌≡◌, ◌++◌, drop}
-use Rattle.c_model.specs.CTokens.{strings_joined}
+use Rattle.model_tokens.specs.CTokens.{strings_joined}
 use Rattle.c_tokens.specs.Pending.{tokens}
 use Rattle.c_tokens.proofs.strings.join_strings.Given as goal
 

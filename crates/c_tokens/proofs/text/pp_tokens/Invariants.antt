@@ -1,6 +1,6 @@
 use Rattle.std.proofs.Common.{◌≡◌, ◌+◌, ◌<◌, ◌^◌, length}
-use Rattle.c_model.specs.JoinedLines.{bytes}
-use Rattle.c_model.specs.PpTokens.{tokens_from, before_rest, tokens_of}
+use Rattle.model_tokens.specs.JoinedLines.{bytes}
+use Rattle.model_tokens.specs.PpTokens.{tokens_from, before_rest, tokens_of}
 use Rattle.c_tokens.specs.Unended.{Knows}
 use Rattle.c_tokens.proofs.text.pp_tokens.Given as goal
 

@@ -1,5 +1,5 @@
 use Rattle.std.proofs.Common.{◌≡◌, ◌++◌, drop, take}
-use Rattle.c_model.specs.JoinedLines.{bytes}
+use Rattle.model_tokens.specs.JoinedLines.{bytes}
 use Rattle.c_tokens.proofs.text.take_text.Given as goal
 
 abbrev pub invariant-loop-left : goal.invariant-loop-left

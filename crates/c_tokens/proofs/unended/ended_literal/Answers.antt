@@ -1,7 +1,7 @@
 use Rattle.std.proofs.Common.{◌≡◌, ◌+◌, drop, ap, sym, ◌∙◌, false}
 use Rattle.std.specs.List.{prefix_len}
-use Rattle.c_model.specs.JoinedLines.{bytes}
-use Rattle.c_model.specs.PpSteps.{closing, is_in_line}
+use Rattle.model_tokens.specs.JoinedLines.{bytes}
+use Rattle.model_tokens.specs.PpSteps.{closing, is_in_line}
 use Rattle.c_tokens.proofs.CellLaws.{bytes_drop}
 use Rattle.c_tokens.proofs.UnendedLaws.{barren_front}
 use Rattle.c_tokens.proofs.unended.ended_literal.Goals as goal

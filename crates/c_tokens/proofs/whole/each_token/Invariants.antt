@@ -1,5 +1,5 @@
 use Rattle.std.proofs.Common.{◌≡◌, drop}
-use Rattle.c_model.specs.CTokens.{each_token}
+use Rattle.model_tokens.specs.CTokens.{each_token}
 use Rattle.c_tokens.proofs.WholeLaws.{before_list}
 use Rattle.c_tokens.proofs.whole.each_token.Given as goal
 

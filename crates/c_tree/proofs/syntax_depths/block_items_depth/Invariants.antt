@@ -1,5 +1,5 @@
 use Rattle.std.proofs.Common.{◌≡◌, max, drop}
-use Rattle.c_model.specs.SyntaxDepth.{block_items_depth, capped}
+use Rattle.c_tree.specs.SyntaxDepth.{block_items_depth, capped}
 use Rattle.c_tree.specs.SyntaxViews.{block_items_of}
 use Rattle.c_tree.proofs.syntax_depths.block_items_depth.Given as goal
 

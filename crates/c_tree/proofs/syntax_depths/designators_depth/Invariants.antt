@@ -1,5 +1,5 @@
 use Rattle.std.proofs.Common.{◌≡◌, max, drop}
-use Rattle.c_model.specs.SyntaxDepth.{designators_depth, capped}
+use Rattle.c_tree.specs.SyntaxDepth.{designators_depth, capped}
 use Rattle.c_tree.specs.SyntaxViews.{designators_of}
 use Rattle.c_tree.proofs.syntax_depths.designators_depth.Given as goal
 

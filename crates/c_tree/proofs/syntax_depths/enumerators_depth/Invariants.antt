@@ -1,5 +1,5 @@
 use Rattle.std.proofs.Common.{◌≡◌, max, drop}
-use Rattle.c_model.specs.SyntaxDepth.{enumerators_depth, capped}
+use Rattle.c_tree.specs.SyntaxDepth.{enumerators_depth, capped}
 use Rattle.c_tree.specs.SyntaxViews.{enumerators_of}
 use Rattle.c_tree.proofs.syntax_depths.enumerators_depth.Given as goal
 

@@ -1,6 +1,6 @@
 use Rattle.std.proofs.Common.{◌≡◌, max, drop}
-use Rattle.c_model.specs.SyntaxDepth.{exprs_depth, capped}
-use Rattle.c_model.specs.SyntaxForms as m
+use Rattle.c_tree.specs.SyntaxDepth.{exprs_depth, capped}
+use Rattle.model_grammar.specs.SyntaxForms as m
 use Rattle.c_tree.proofs.syntax_depths.exprs_depth.Given as goal
 
 abbrev pub invariant-loop-expr : goal.invariant-loop-expr

@@ -1,5 +1,5 @@
 use Rattle.std.proofs.Common.{◌≡◌, max, drop}
-use Rattle.c_model.specs.SyntaxDepth.{externals_depth, capped}
+use Rattle.c_tree.specs.SyntaxDepth.{externals_depth, capped}
 use Rattle.c_tree.specs.SyntaxViews.{externals_of}
 use Rattle.c_tree.proofs.syntax_depths.externals_depth.Given as goal
 

@@ -1,5 +1,5 @@
 use Rattle.std.proofs.Common.{◌≡◌, max, drop}
-use Rattle.c_model.specs.SyntaxDepth.{init_declarators_depth, capped}
+use Rattle.c_tree.specs.SyntaxDepth.{init_declarators_depth, capped}
 use Rattle.c_tree.specs.SyntaxViews.{init_declarators_of}
 use Rattle.c_tree.proofs.syntax_depths.init_declarators_depth.Given as goal
 

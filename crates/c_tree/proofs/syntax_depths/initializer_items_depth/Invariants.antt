@@ -1,5 +1,5 @@
 use Rattle.std.proofs.Common.{◌≡◌, max, drop}
-use Rattle.c_model.specs.SyntaxDepth.{initializer_items_depth, capped}
+use Rattle.c_tree.specs.SyntaxDepth.{initializer_items_depth, capped}
 use Rattle.c_tree.specs.SyntaxViews.{initializer_items_of}
 use Rattle.c_tree.proofs.syntax_depths.initializer_items_depth.Given as goal
 

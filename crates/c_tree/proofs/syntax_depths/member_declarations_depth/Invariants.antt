@@ -1,5 +1,5 @@
 use Rattle.std.proofs.Common.{◌≡◌, max, drop}
-use Rattle.c_model.specs.SyntaxDepth.{member_declarations_depth, capped}
+use Rattle.c_tree.specs.SyntaxDepth.{member_declarations_depth, capped}
 use Rattle.c_tree.specs.SyntaxViews.{member_declarations_of}
 use Rattle.c_tree.proofs.syntax_depths.member_declarations_depth.Given as goal
 

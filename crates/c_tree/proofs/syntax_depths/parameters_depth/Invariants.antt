@@ -1,5 +1,5 @@
 use Rattle.std.proofs.Common.{◌≡◌, max, drop}
-use Rattle.c_model.specs.SyntaxDepth.{parameters_depth, capped}
+use Rattle.c_tree.specs.SyntaxDepth.{parameters_depth, capped}
 use Rattle.c_tree.specs.SyntaxViews.{parameters_of}
 use Rattle.c_tree.proofs.syntax_depths.parameters_depth.Given as goal
 

@@ -1,5 +1,5 @@
 use Rattle.std.proofs.Common.{◌≡◌, max, drop}
-use Rattle.c_model.specs.SyntaxDepth.{specs_depth, capped}
+use Rattle.c_tree.specs.SyntaxDepth.{specs_depth, capped}
 use Rattle.c_tree.specs.SyntaxViews.{specs_items}
 use Rattle.c_tree.proofs.syntax_depths.spec_list_depth.Given as goal
 

@@ -1,5 +1,5 @@
 use Rattle.std.proofs.Common.{◌≡◌, max, drop}
-use Rattle.c_model.specs.SyntaxDepth.{suffixes_depth, capped}
+use Rattle.c_tree.specs.SyntaxDepth.{suffixes_depth, capped}
 use Rattle.c_tree.specs.SyntaxViews.{suffixes_of}
 use Rattle.c_tree.proofs.syntax_depths.suffixes_depth.Given as goal
 

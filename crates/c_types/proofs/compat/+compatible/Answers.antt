@@ -1,5 +1,5 @@
 use Rattle.std.proofs.Common.{◌<◌, arith}
-use Rattle.c_model.specs.Types as ty
+use Rattle.model_types.specs.Types as ty
 use Rattle.c_types.proofs.Lists.{unlike, one_is_smaller}
 use Rattle.c_types.proofs.compat.+compatible.Goals as goal
 

@@ -1,5 +1,5 @@
 use Rattle.std.proofs.Common.{◌+◌, ◌*◌}
-use Rattle.c_model.specs.Types as t
+use Rattle.model_types.specs.Types as t
 use Rattle.c_types.specs.Forms.{form_of}
 use Rattle.c_types.proofs.Lists.{IsPassed}
 use Rattle.c_types.proofs.compat.+compatible.Given as goal

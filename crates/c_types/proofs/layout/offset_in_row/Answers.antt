@@ -1,8 +1,8 @@
 use Rattle.std.proofs.Common.{List, ◌∙◌, ap}
 use Rattle.std.specs.Option.{option_map}
-use Rattle.c_model.specs.Types as t
-use Rattle.c_model.specs.Structures.{Member}
-use Rattle.c_model.specs.Layout as m
+use Rattle.model_types.specs.Types as t
+use Rattle.model_types.specs.Structures.{Member}
+use Rattle.model_types.specs.Layout as m
 use Rattle.c_types.specs.Extents as s
 use Rattle.c_types.proofs.Offsets.{offset_none, offset_some, member_none, row_there}
 use Rattle.c_types.proofs.layout.offset_in_row.Goals as goal

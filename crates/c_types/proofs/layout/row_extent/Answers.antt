@@ -1,7 +1,7 @@
 use Rattle.std.proofs.Common.{◌∙◌, ap}
 use Rattle.std.specs.Option.{option_map}
-use Rattle.c_model.specs.Types as t
-use Rattle.c_model.specs.Layout as m
+use Rattle.model_types.specs.Types as t
+use Rattle.model_types.specs.Layout as m
 use Rattle.c_types.specs.Extents as s
 use Rattle.c_types.proofs.Rows.{row_step}
 use Rattle.c_types.proofs.layout.row_extent.Goals as goal

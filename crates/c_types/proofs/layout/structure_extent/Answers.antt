@@ -1,4 +1,4 @@
-use Rattle.c_model.specs.Layout as m
+use Rattle.model_types.specs.Layout as m
 use Rattle.c_types.proofs.Rows.{whole_row}
 use Rattle.c_types.proofs.layout.structure_extent.Goals as goal
 

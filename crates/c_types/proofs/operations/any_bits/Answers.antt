@@ -1,5 +1,5 @@
 use Rattle.std.proofs.lemmas.Nat.{or_lt}
-use Rattle.c_model.specs.Operations as m
+use Rattle.model_types.specs.Operations as m
 use Rattle.c_types.proofs.operations.any_bits.Goals as goal
 
 pub value_of-requires : goal.value_of-requires

@@ -1,5 +1,5 @@
 use Rattle.std.proofs.Common.{IsTrue, subst, sym, ℤ}
-use Rattle.c_model.specs.Operations as m
+use Rattle.model_types.specs.Operations as m
 use Rattle.c_types.proofs.Wide.{narrow, remainder_is, fits_remainder}
 use Rattle.c_types.proofs.operations.rest.Goals as goal
 

@@ -1,5 +1,5 @@
 use Rattle.std.proofs.Common.{IsTrue, subst, sym, ℤ, ◌^◌, unsigned_abs}
-use Rattle.c_model.specs.Operations as m
+use Rattle.model_types.specs.Operations as m
 use Rattle.c_types.proofs.Wide.{shift_is, fits_shifted}
 use Rattle.c_types.proofs.operations.shifted_right.Goals as goal
 

@@ -1,5 +1,5 @@
 use Rattle.std.proofs.Common.{◌∙◌, ap}
-use Rattle.c_model.specs.Operations as m
+use Rattle.model_types.specs.Operations as m
 use Rattle.c_types.proofs.Wide.{narrow, sum_is}
 use Rattle.c_types.proofs.operations.sum.Goals as goal
 

@@ -1,5 +1,5 @@
 use Rattle.std.proofs.Common.{◌≡◌, ◌++◌, drop}
-use Rattle.c_model.specs.ExpandedText.{expanded_text}
+use Rattle.cake_cli.specs.ExpandedText.{expanded_text}
 use Rattle.cake_cli.specs.Behind.{text_behind}
 use Rattle.cake_cli.proofs.expanded.expanded_text.Given as goal
 

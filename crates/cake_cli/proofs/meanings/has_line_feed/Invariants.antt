@@ -1,5 +1,5 @@
 use Rattle.std.proofs.Common.{◌≡◌, drop}
-use Rattle.c_model.specs.Words.{has_line_feed}
+use Rattle.cake_cli.specs.Words.{has_line_feed}
 use Rattle.cake_cli.proofs.meanings.has_line_feed.Given as goal
 
 abbrev pub invariant-loop-byte : goal.invariant-loop-byte

@@ -1,5 +1,5 @@
 use Rattle.std.proofs.Common.{◌≡◌, ◌++◌, take, drop}
-use Rattle.c_model.specs.Words.{defined_name, defined_value}
+use Rattle.cake_cli.specs.Words.{defined_name, defined_value}
 use Rattle.cake_cli.proofs.meanings.name_length.Given as goal
 
 abbrev pub invariant-loop-i : goal.invariant-loop-i

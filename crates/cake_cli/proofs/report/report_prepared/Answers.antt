@@ -1,5 +1,5 @@
 use Rattle.std.proofs.Common.{◌∙◌, ap}
-use Rattle.c_model.specs.ExpandedText.{expanded_text}
+use Rattle.cake_cli.specs.ExpandedText.{expanded_text}
 use Rattle.pp_directives.specs.Promise.{with_log}
 use Rattle.cake_cli.proofs.MadeReports.{expanded_done}
 use Rattle.cake_cli.proofs.report.report_prepared.Goals as goal

@@ -1,5 +1,5 @@
 use Rattle.std.proofs.Common.{ap}
-use Rattle.c_model.specs.Processes.{broken, passed, unread}
+use Rattle.model_preprocessing.specs.Processes.{broken, passed, unread}
 use Rattle.cake_cli.specs.Reports.{stop_of}
 use Rattle.cake_cli.proofs.MadeReports.{stop_report}
 use Rattle.cake_cli.proofs.report.report_stop.Goals as goal

@@ -1,5 +1,9 @@
 use Rattle.cake_cli.proofs.MadeReports.{fault_tokens, limit_tokens}
+use Rattle.cake_cli.proofs.UnitForms.{parsed_has_form}
 use Rattle.cake_cli.proofs.report.report_tokens.Goals as goal
+
+pub report_tree-requires : goal.report_tree-requires
+report_tree-requires c = parsed_has_form _ _ c.in-Ok.ensures
 
 pub returns-in-Err-Fault : goal.returns-in-Err-Fault
 returns-in-Err-Fault c =

@@ -1,5 +1,5 @@
 use Rattle.std.proofs.Common.{◌∙◌, ap, sym}
-use Rattle.c_model.specs.CTokens.{c_tokens_of}
+use Rattle.model_tokens.specs.CTokens.{c_tokens_of}
 use Rattle.pp_directives.specs.Promise.{with_log}
 use Rattle.cake_cli.proofs.MadeReports.{refused_unit}
 use Rattle.cake_cli.proofs.report.report_unit.Goals as goal

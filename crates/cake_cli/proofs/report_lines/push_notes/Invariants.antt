@@ -1,5 +1,5 @@
 use Rattle.std.proofs.Common.{◌≡◌, ◌++◌, drop}
-use Rattle.c_model.specs.ReportLines.{note_lines}
+use Rattle.cake_cli.specs.ReportLines.{note_lines}
 use Rattle.cake_cli.proofs.report_lines.push_notes.Given as goal
 
 abbrev pub invariant-loop-at : goal.invariant-loop-at

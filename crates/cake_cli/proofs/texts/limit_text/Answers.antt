@@ -1,4 +1,4 @@
-use Rattle.c_model.specs.RuleTexts.{limit_text}
+use Rattle.cake_cli.specs.RuleTexts.{limit_text}
 use Rattle.cake_cli.proofs.texts.limit_text.Goals as goal
 
 pub returns : goal.returns

@@ -1,5 +1,5 @@
 use Rattle.std.proofs.Common.{◌∙◌, ap, sym}
-use Rattle.c_model.specs.RuleTexts.{rule_text, texts_of, numbered_text}
+use Rattle.cake_cli.specs.RuleTexts.{rule_text, texts_of, numbered_text}
 use Rattle.cake_cli.proofs.texts.rule_text.Goals as goal
 
 pub returns-in-P : goal.returns-in-P

@@ -1,5 +1,5 @@
 use Rattle.std.proofs.Common.{◌+◌, drop, map, string_bytes}
-use Rattle.c_model.specs.Words.{plan, plan_from}
+use Rattle.cake_cli.specs.Words.{plan, plan_from}
 use Rattle.cake_cli.specs.WordsRead.{met_of, Leads}
 use Rattle.cake_cli.proofs.words.test_words.Given as goal
 

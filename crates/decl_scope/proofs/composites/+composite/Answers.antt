@@ -1,5 +1,5 @@
 use Rattle.std.proofs.Common.{arith, ap}
-use Rattle.c_model.specs.Types as t
+use Rattle.model_types.specs.Types as t
 use Rattle.decl_scope.proofs.ParameterLaws.{type_in_list, parameters_in_type, composed_all}
 use Rattle.decl_scope.proofs.composites.+composite.Goals as goal
 

@@ -1,5 +1,5 @@
 use Rattle.std.proofs.Common.{◌≡◌, ◌≤◌, ◌+◌, ◌*◌, ◌++◌, length, drop}
-use Rattle.c_model.specs.Types as t
+use Rattle.model_types.specs.Types as t
 use Rattle.decl_scope.specs.Parameters.{composites}
 use Rattle.decl_scope.proofs.composites.+composite.Given as goal
 

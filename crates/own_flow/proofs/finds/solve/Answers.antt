@@ -1,6 +1,6 @@
 use Rattle.std.proofs.Common.{◌≡◌, ◌↔◌, length, sym, ◌∙◌, ap, subst, map, Contains}
 use Rattle.std.proofs.lemmas.Result.{IfOk-weaker}
-use Rattle.c_model.specs.Findings.{AreFindings}
+use Rattle.own_flow.specs.Findings.{AreFindings}
 use Rattle.own_flow.specs.declared.ranks.Ranked.{Ranked}
 use Rattle.own_flow.specs.Ranks.{fault_of}
 use Rattle.own_flow.specs.Exploration.{BreaksBelow}

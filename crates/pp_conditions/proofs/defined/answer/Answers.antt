@@ -1,7 +1,7 @@
 -- `defined` and its operand at the rank.
 use Rattle.std.proofs.Common.{List, [], ◌∷◌, ◌++◌, ◌+◌, ◌∙◌, ap, sym, subst, arith}
-use Rattle.c_model.specs.PpTokens.{PpToken}
-use Rattle.c_model.specs.Defined.{told}
+use Rattle.model_tokens.specs.PpTokens.{PpToken}
+use Rattle.model_conditions.specs.Defined.{told}
 use Rattle.pp_conditions.specs.Lines.{Follows}
 use Rattle.pp_conditions.proofs.LineLaws.{tells, misses}
 use Rattle.pp_conditions.proofs.defined.answer.Goals as goal

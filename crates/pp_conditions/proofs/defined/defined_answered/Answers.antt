@@ -1,7 +1,7 @@
 -- The line is read to its end, or up to what refuses it.
 use Rattle.std.proofs.Common.{◌∙◌, sym, arith}
 use Rattle.std.proofs.lemmas.Result.{err_from_is_err_and}
-use Rattle.c_model.specs.Defined.{defined_answered}
+use Rattle.model_conditions.specs.Defined.{defined_answered}
 use Rattle.pp_conditions.proofs.LineLaws.{ended}
 use Rattle.pp_conditions.proofs.RefusalLaws.{line_refused}
 use Rattle.pp_conditions.proofs.defined.defined_answered.Goals as goal

@@ -1,5 +1,5 @@
 use Rattle.std.proofs.Common.{◌≡◌, ◌-◌, length}
-use Rattle.c_model.specs.Defined.{answered_from}
+use Rattle.model_conditions.specs.Defined.{answered_from}
 use Rattle.pp_conditions.specs.Lines.{answered_at, with_front}
 use Rattle.pp_conditions.proofs.defined.defined_answered.Given as goal
 

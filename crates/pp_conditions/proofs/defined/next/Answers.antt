@@ -1,6 +1,6 @@
 -- The token of the rank.
 use Rattle.std.proofs.Common.{List, [], ◌∷◌, ◌++◌, ◌+◌, ◌∙◌, ap, sym, subst, arith}
-use Rattle.c_model.specs.PpTokens.{PpToken}
+use Rattle.model_tokens.specs.PpTokens.{PpToken}
 use Rattle.pp_conditions.specs.Lines.{Follows}
 use Rattle.pp_conditions.proofs.LineLaws.{passes, leaves_out, keeps}
 use Rattle.pp_conditions.proofs.defined.next.Goals as goal

@@ -1,6 +1,6 @@
 use Rattle.std.proofs.Common.{◌≡◌, length}
-use Rattle.c_model.specs.ConditionReader.{filled}
-use Rattle.c_model.specs.ConditionReading.{computed}
+use Rattle.model_conditions.specs.apparatus.ConditionReader.{filled}
+use Rattle.model_conditions.specs.ConditionReading.{computed}
 use Rattle.pp_conditions.specs.Shown.{all}
 use Rattle.pp_conditions.proofs.frames.fill.Given as goal
 

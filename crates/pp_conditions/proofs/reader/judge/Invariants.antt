@@ -1,6 +1,6 @@
 use Rattle.std.proofs.Common.{◌≡◌, drop, Some}
-use Rattle.c_model.specs.ConditionReader.{read, read_from}
-use Rattle.c_model.specs.ConditionReading.{computed}
+use Rattle.model_conditions.specs.apparatus.ConditionReader.{read, read_from}
+use Rattle.model_conditions.specs.ConditionReading.{computed}
 use Rattle.pp_conditions.specs.Progress.{reading}
 use Rattle.pp_conditions.proofs.reader.judge.Given as goal
 

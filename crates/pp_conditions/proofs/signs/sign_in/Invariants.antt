@@ -1,5 +1,5 @@
 use Rattle.std.proofs.Common.{◌≡◌, drop, map}
-use Rattle.c_model.specs.ConditionTokens.{sign_in}
+use Rattle.model_conditions.specs.ConditionTokens.{sign_in}
 use Rattle.pp_conditions.proofs.signs.sign_in.Given as goal
 
 abbrev pub invariant-loop-sign : goal.invariant-loop-sign

@@ -1,5 +1,5 @@
 use Rattle.std.proofs.Common.{◌≡◌, drop}
-use Rattle.c_model.specs.ConditionTokens.{condition_tokens}
+use Rattle.model_conditions.specs.ConditionTokens.{condition_tokens}
 use Rattle.pp_conditions.specs.Listed.{with_tokens}
 use Rattle.pp_conditions.proofs.tokens.condition_tokens.Given as goal
 

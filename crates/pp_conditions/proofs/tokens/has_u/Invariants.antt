@@ -1,5 +1,5 @@
 use Rattle.std.proofs.Common.{◌≡◌, drop}
-use Rattle.c_model.specs.ConditionTokens.{has_u}
+use Rattle.model_conditions.specs.ConditionTokens.{has_u}
 use Rattle.pp_conditions.proofs.tokens.has_u.Given as goal
 
 abbrev pub invariant-loop-b : goal.invariant-loop-b

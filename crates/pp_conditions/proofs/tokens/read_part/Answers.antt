@@ -1,7 +1,7 @@
 -- The token of the rank.
 use Rattle.std.proofs.Common.{List, sym, subst}
 use Rattle.std.proofs.lemmas.Result.{err_from_is_err_and}
-use Rattle.c_model.specs.declared.conditions.ConditionToken.{ConditionToken}
+use Rattle.model_conditions.specs.declared.conditions.ConditionToken.{ConditionToken}
 use Rattle.pp_conditions.specs.Listed.{Grows}
 use Rattle.pp_conditions.proofs.LineLaws.{part}
 use Rattle.pp_conditions.proofs.RefusalLaws.{part_refused}

@@ -1,5 +1,5 @@
 use Rattle.std.proofs.Common.{ap, sym, ◌∙◌}
-use Rattle.c_model.specs.Macros.{found}
+use Rattle.model_macros.specs.Macros.{found}
 use Rattle.pp_directives.specs.Controls.{name_of}
 use Rattle.pp_directives.proofs.ControlLaws.{is-defined}
 use Rattle.pp_directives.proofs.branches.name_is_defined.Goals as goal

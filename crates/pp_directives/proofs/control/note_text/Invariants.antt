@@ -1,5 +1,5 @@
 use Rattle.std.proofs.Common.{◌≡◌, ◌++◌, drop}
-use Rattle.c_model.specs.ControlLines.{note_text, parted}
+use Rattle.model_preprocessing.specs.ControlLines.{note_text, parted}
 use Rattle.pp_directives.proofs.control.note_text.Given as goal
 
 abbrev pub invariant-loop-at : goal.invariant-loop-at

@@ -1,10 +1,10 @@
 use Rattle.std.proofs.Common.{◌≡◌, ◌≤◌, ◌<◌, ◌+◌, ◌-◌, length, Ok, Some, None, slice_get, refl, sym, ◌∙◌, ap, subst, arith}
 use Rattle.std.proofs.lemmas.Result.{err_from_is_err_and}
-use Rattle.c_model.specs.Processes.{gives}
-use Rattle.c_model.specs.Sources.{here}
-use Rattle.c_model.specs.FileSearch.{searched}
-use Rattle.c_model.specs.Included.{all_candidates, include_line, levels}
-use Rattle.c_model.specs.Preprocessing.{all_lines}
+use Rattle.model_preprocessing.specs.Processes.{gives}
+use Rattle.model_preprocessing.specs.Sources.{here}
+use Rattle.model_preprocessing.specs.FileSearch.{searched}
+use Rattle.model_preprocessing.specs.Included.{all_candidates, include_line, levels}
+use Rattle.model_preprocessing.specs.Preprocessing.{all_lines}
 use Rattle.pp_directives.specs.Reads.{Reaches}
 use Rattle.std.specs.Option.{option_map}
 use Rattle.pp_directives.specs.Lines.{Finds}

@@ -1,6 +1,6 @@
 use Rattle.std.proofs.Common.{◌≡◌, ◌+◌, ◌*◌, drop}
-use Rattle.c_model.specs.Included.{levels, include_line}
-use Rattle.c_model.specs.Preprocessing.{all_lines}
+use Rattle.model_preprocessing.specs.Included.{levels, include_line}
+use Rattle.model_preprocessing.specs.Preprocessing.{all_lines}
 use Rattle.pp_directives.specs.Reads.{Reaches}
 use Rattle.pp_directives.proofs.lines.+inclusion.Given as goal
 

@@ -1,6 +1,6 @@
 use Rattle.std.proofs.Common.{◌≡◌, ◌+◌, length, arith, ap, ◌∙◌, sym}
 use Rattle.std.proofs.lemmas.List.{length-append}
-use Rattle.pp_directives.proofs.StateLaws.{ranked-step, moved, copied-some}
+use Rattle.pp_directives.proofs.StateLaws.{ranked-step, moved}
 use Rattle.pp_directives.proofs.output.add_ranked.Goals as goal
 
 pub loop-at-preserved : goal.loop-at-preserved

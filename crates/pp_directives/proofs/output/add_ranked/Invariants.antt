@@ -1,5 +1,5 @@
 use Rattle.std.proofs.Common.{◌≡◌, ◌+◌, ◌++◌, drop, length}
-use Rattle.c_model.specs.Sources.{ranked_from}
+use Rattle.model_preprocessing.specs.Sources.{ranked_from}
 use Rattle.pp_directives.proofs.output.add_ranked.Given as goal
 
 abbrev pub invariant-loop-at : goal.invariant-loop-at

@@ -1,8 +1,8 @@
 use Rattle.std.proofs.Common.{◌≡◌, refl, sym, ◌∙◌, ap, subst}
 use Rattle.std.proofs.lemmas.Result.{err_from_is_err_and}
 use Rattle.cake_base.specs.Outside.{RefusesRead}
-use Rattle.c_model.specs.Processes.{NotHeld}
-use Rattle.c_model.specs.FileSearch.{read_file}
+use Rattle.model_preprocessing.specs.Processes.{NotHeld}
+use Rattle.model_preprocessing.specs.FileSearch.{read_file}
 use Rattle.pp_directives.proofs.SearchLaws.{ask-reaches, contents-read, ask-found, ask-stops, large-stops, failed-stops}
 use Rattle.pp_directives.proofs.search.ask.Goals as goal
 

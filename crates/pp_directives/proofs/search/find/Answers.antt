@@ -1,7 +1,7 @@
 use Rattle.std.proofs.Common.{◌≡◌, Ok, refl, sym, ◌∙◌, ap, subst}
-use Rattle.c_model.specs.Sources.{number_of}
-use Rattle.c_model.specs.Included.{all_candidates}
-use Rattle.c_model.specs.FileSearch.{searched, built_in_header}
+use Rattle.model_preprocessing.specs.Sources.{number_of}
+use Rattle.model_preprocessing.specs.Included.{all_candidates}
+use Rattle.model_preprocessing.specs.FileSearch.{searched, built_in_header}
 use Rattle.pp_directives.specs.Looks.{Looks}
 use Rattle.pp_directives.proofs.SearchLaws.{found-built-in}
 use Rattle.pp_directives.proofs.search.find.Goals as goal

@@ -1,9 +1,9 @@
 use Rattle.std.proofs.Common.{◌≡◌, ◌≤◌, ◌+◌, length, None, Some, Ok, Err, [], refl, sym, ◌∙◌, ap, subst, arith, slice_get}
 use Rattle.std.proofs.lemmas.Result.{err_from_is_err_and}
-use Rattle.c_model.specs.Sources.{number_of}
-use Rattle.c_model.specs.Included.{all_candidates, name_of}
-use Rattle.c_model.specs.Processes.{Process}
-use Rattle.c_model.specs.FileSearch.{Found, looked_up, searched}
+use Rattle.model_preprocessing.specs.Sources.{number_of}
+use Rattle.model_preprocessing.specs.Included.{all_candidates, name_of}
+use Rattle.model_preprocessing.specs.Processes.{Process}
+use Rattle.model_preprocessing.specs.FileSearch.{Found, looked_up, searched}
 use Rattle.pp_directives.specs.declared.search.Looked.TheVariants as looks
 use Rattle.pp_directives.specs.Looks.{Looks}
 use Rattle.pp_directives.proofs.SearchLaws.{held-stops, held-found, held-next, held-absent, past-names, memory-stops}

@@ -1,6 +1,6 @@
 use Rattle.std.proofs.Common.{◌≡◌, drop}
-use Rattle.c_model.specs.Included.{all_candidates}
-use Rattle.c_model.specs.FileSearch.{searched}
+use Rattle.model_preprocessing.specs.Included.{all_candidates}
+use Rattle.model_preprocessing.specs.FileSearch.{searched}
 use Rattle.pp_directives.specs.Reads.{Reaches}
 use Rattle.pp_directives.proofs.search.find_held.Given as goal
 

@@ -1,7 +1,7 @@
 use Rattle.std.proofs.Common.{◌≡◌, None, refl, sym, ◌∙◌, ap}
 use Rattle.std.proofs.lemmas.Bool.{false_from_ne_true}
 use Rattle.std.proofs.lemmas.Str.{IsUtf8-from_is_utf8, is_utf8-from_IsUtf8}
-use Rattle.c_model.specs.Sources.{number_of}
+use Rattle.model_preprocessing.specs.Sources.{number_of}
 use Rattle.pp_directives.proofs.ReadLaws.{reaches-self}
 use Rattle.pp_directives.proofs.SearchLaws.{looks-asked, looked-on}
 use Rattle.pp_directives.proofs.search.look_up.Goals as goal

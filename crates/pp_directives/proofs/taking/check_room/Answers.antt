@@ -1,6 +1,6 @@
 use Rattle.std.proofs.Common.{◌≡◌, ◌<◌, ◌≤◌, ◌+◌, nat_lt, true, false, length, arith, ap, inl, inr}
 use Rattle.std.proofs.lemmas.Bool.Decides.{nat_tests}
-use Rattle.c_model.specs.FileSearch.{MOST_FILES, MOST_BYTES}
+use Rattle.model_preprocessing.specs.FileSearch.{MOST_FILES, MOST_BYTES}
 use Rattle.pp_directives.proofs.taking.check_room.Goals as goal
 
 pub returns-then-count-ge-MOST_FILES : goal.returns-then-count-ge-MOST_FILES

@@ -1,5 +1,5 @@
 use Rattle.std.proofs.Common.{◌≡◌, ◌++◌, drop}
-use Rattle.c_model.specs.PreprocessedUnit.{command_lines}
+use Rattle.model_preprocessing.specs.PreprocessedUnit.{command_lines}
 use Rattle.pp_directives.proofs.unit.command_lines.Given as goal
 
 abbrev pub invariant-loop-at : goal.invariant-loop-at

@@ -1,5 +1,5 @@
 use Rattle.std.proofs.Common.{◌≡◌, ◌++◌, drop}
-use Rattle.c_model.specs.Sources.{standing_all}
+use Rattle.model_preprocessing.specs.Sources.{standing_all}
 use Rattle.pp_directives.proofs.unit.standing_all.Given as goal
 
 abbrev pub invariant-loop-at : goal.invariant-loop-at

@@ -1,5 +1,5 @@
 use Rattle.std.proofs.Common.{◌≡◌, ◌≤◌, ◌+◌, drop}
-use Rattle.c_model.specs.Place.{behind_all, first_position}
+use Rattle.model_preprocessing.specs.Place.{behind_all, first_position}
 use Rattle.pp_directives.proofs.whole.behind_all.Given as goal
 
 abbrev pub invariant-loop-byte : goal.invariant-loop-byte

@@ -1,7 +1,7 @@
 use Rattle.std.proofs.Common.{◌≡◌, refl, sym, ◌∙◌, ap}
 use Rattle.std.proofs.lemmas.Result.{err_from_is_err_and}
-use Rattle.c_model.specs.Included.{levels}
-use Rattle.c_model.specs.PreprocessedUnit.{MOST_LEVELS}
+use Rattle.model_preprocessing.specs.Included.{levels}
+use Rattle.model_preprocessing.specs.PreprocessedUnit.{MOST_LEVELS}
 use Rattle.pp_directives.proofs.UnitLaws.{files-run, files-stop}
 use Rattle.pp_directives.proofs.whole.both_files.Goals as goal
 

@@ -1,7 +1,7 @@
 use Rattle.std.proofs.Common.{◌≡◌, refl, sym, ◌∙◌, ap, subst}
 use Rattle.std.proofs.lemmas.Result.{err_from_is_err_and}
-use Rattle.c_model.specs.Processes.{Contents}
-use Rattle.c_model.specs.PreprocessedUnit.{both_files}
+use Rattle.model_preprocessing.specs.Processes.{Contents}
+use Rattle.model_preprocessing.specs.PreprocessedUnit.{both_files}
 use Rattle.pp_directives.specs.Reads.{Answers}
 use Rattle.pp_directives.specs.Outcomes.{Stops}
 use Rattle.pp_directives.proofs.UnitLaws.{main-unread, no-memory, unit-stops, unit-gives, same-prepared}

@@ -1,5 +1,5 @@
 use Rattle.std.proofs.Common.{◌≡◌, ◌≤◌, length}
-use Rattle.c_model.specs.MacroArguments.{inside, placed}
+use Rattle.model_macros.specs.MacroArguments.{inside, placed}
 use Rattle.pp_macros.proofs.ArgumentLaws.{all_in_front}
 use Rattle.pp_macros.proofs.arguments.inside.Given as goal
 

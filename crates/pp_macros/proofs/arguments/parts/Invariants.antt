@@ -1,5 +1,5 @@
 use Rattle.std.proofs.Common.{◌≡◌, ◌≤◌, ◌++◌, length}
-use Rattle.c_model.specs.MacroArguments.{parts}
+use Rattle.model_macros.specs.MacroArguments.{parts}
 use Rattle.pp_macros.proofs.ArgumentLaws.{to_first}
 use Rattle.pp_macros.proofs.arguments.parts.Given as goal
 

@@ -1,4 +1,4 @@
-use Rattle.c_model.specs.Expansion.{Answer}
+use Rattle.model_macros.specs.Expansion.{Answer}
 use Rattle.pp_macros.specs.Progress.{From, work}
 use Rattle.pp_macros.proofs.expansion.expand_run.Given as goal
 

@@ -1,5 +1,5 @@
 use Rattle.std.proofs.Common.{◌≡◌, ◌++◌, drop, map}
-use Rattle.c_model.specs.Pasting.{fresh}
+use Rattle.model_macros.specs.Pasting.{fresh}
 use Rattle.pp_macros.proofs.expansion.fresh_run.Given as goal
 
 abbrev pub invariant-loop-at : goal.invariant-loop-at

@@ -1,6 +1,6 @@
 use Rattle.std.proofs.Common.{◌∙◌, ap, refl}
 use Rattle.std.proofs.lemmas.Result.{err_from_is_err_and}
-use Rattle.c_model.specs.MacroDefinitions.{names_of}
+use Rattle.model_macros.specs.MacroDefinitions.{names_of}
 use Rattle.pp_macros.proofs.GoOnLaws.{Asked-gives, Asked-shrinks, Asked-parts, Done-gives, Done-shrinks, Done-parts, Stopped-parts}
 use Rattle.std.proofs.Common.{length}
 use Rattle.pp_macros.proofs.expansion.go_on.Goals as goal

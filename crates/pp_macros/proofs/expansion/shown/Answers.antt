@@ -1,9 +1,9 @@
 use Rattle.std.proofs.Common.{◌≡◌, ◌∙◌, ap, sym, Some, true, false}
 use Rattle.std.specs.Option.{is_some}
-use Rattle.c_model.specs.HideSets.{holds}
-use Rattle.c_model.specs.Macros.{ranked}
-use Rattle.c_model.specs.MacroArguments.{opens}
-use Rattle.c_model.specs.ExpansionRules.{Stays-unknown, Stays-hidden, Stays-alone}
+use Rattle.model_macros.specs.HideSets.{holds}
+use Rattle.model_macros.specs.Macros.{ranked}
+use Rattle.model_macros.specs.MacroArguments.{opens}
+use Rattle.model_macros.specs.apparatus.ExpansionRules.{Stays-unknown, Stays-hidden, Stays-alone}
 use Rattle.pp_macros.proofs.GoOnLaws.{some-of}
 use Rattle.pp_macros.proofs.expansion.shown.Goals as goal
 

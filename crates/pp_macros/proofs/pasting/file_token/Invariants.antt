@@ -1,6 +1,6 @@
 use Rattle.std.proofs.Common.{◌≡◌, ◌++◌, drop}
 use Rattle.std.specs.List.{flat_map}
-use Rattle.c_model.specs.Pasting.{literal_byte}
+use Rattle.model_macros.specs.Pasting.{literal_byte}
 use Rattle.pp_macros.proofs.pasting.file_token.Given as goal
 
 abbrev pub invariant-loop-b : goal.invariant-loop-b

@@ -1,5 +1,5 @@
 use Rattle.std.proofs.Common.{◌∙◌, ap, sym, ◌++◌}
-use Rattle.c_model.specs.MacroArguments.{Run}
+use Rattle.model_macros.specs.MacroArguments.{Run}
 use Rattle.pp_macros.proofs.PastingLaws.{pasted_end}
 use Rattle.pp_macros.proofs.pasting.pasted_runs.Goals as goal
 

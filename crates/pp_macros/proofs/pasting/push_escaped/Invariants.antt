@@ -1,6 +1,6 @@
 use Rattle.std.proofs.Common.{◌≡◌, ◌++◌, drop}
 use Rattle.std.specs.List.{flat_map}
-use Rattle.c_model.specs.Pasting.{escaped}
+use Rattle.model_macros.specs.Pasting.{escaped}
 use Rattle.pp_macros.proofs.pasting.push_escaped.Given as goal
 
 abbrev pub invariant-loop-b : goal.invariant-loop-b

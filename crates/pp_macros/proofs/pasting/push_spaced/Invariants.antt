@@ -1,5 +1,5 @@
 use Rattle.std.proofs.Common.{◌≡◌, ◌++◌, drop}
-use Rattle.c_model.specs.Pasting.{spaced}
+use Rattle.model_macros.specs.Pasting.{spaced}
 use Rattle.pp_macros.proofs.pasting.push_spaced.Given as goal
 
 abbrev pub invariant-loop-p : goal.invariant-loop-p

@@ -1,6 +1,6 @@
 use Rattle.std.proofs.Common.{◌≡◌, ◌∙◌, ap, sym, Err}
-use Rattle.c_model.specs.Pasting.{single, alone}
-use Rattle.c_model.specs.PpTokens.{tokens_of}
+use Rattle.model_macros.specs.Pasting.{single, alone}
+use Rattle.model_tokens.specs.PpTokens.{tokens_of}
 use Rattle.pp_macros.proofs.pasting.single.Goals as goal
 
 pub returns-in-Err-Fault : goal.returns-in-Err-Fault

@@ -1,5 +1,5 @@
 use Rattle.std.proofs.Common.{◌≡◌, ◌++◌, length}
-use Rattle.c_model.specs.Pasting.{without_placemarkers}
+use Rattle.model_macros.specs.Pasting.{without_placemarkers}
 use Rattle.pp_macros.proofs.pasting.without_placemarkers.Given as goal
 
 abbrev pub invariant-loop-p : goal.invariant-loop-p

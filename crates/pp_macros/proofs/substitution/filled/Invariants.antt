@@ -1,5 +1,5 @@
 use Rattle.std.proofs.Common.{◌≡◌, drop, Some}
-use Rattle.c_model.specs.Substitution.{filled, empty_filling}
+use Rattle.model_macros.specs.Substitution.{filled, empty_filling}
 use Rattle.pp_macros.specs.Filling.{source_of}
 use Rattle.pp_macros.proofs.substitution.filled.Given as goal
 

@@ -1,5 +1,5 @@
 use Rattle.std.proofs.Common.{◌≡◌, ◌++◌, map, length}
-use Rattle.c_model.specs.Substitution.{paint}
+use Rattle.model_macros.specs.Substitution.{paint}
 use Rattle.pp_macros.proofs.substitution.text_for.Given as goal
 
 abbrev pub invariant-loop-p : goal.invariant-loop-p

@@ -1,5 +1,5 @@
 use Rattle.std.proofs.Common.{◌≡◌, ◌++◌, map, length}
-use Rattle.c_model.specs.Substitution.{unreplaced}
+use Rattle.model_macros.specs.Substitution.{unreplaced}
 use Rattle.pp_macros.proofs.substitution.unreplaced.Given as goal
 
 abbrev pub invariant-loop-run : goal.invariant-loop-run

@@ -1,5 +1,5 @@
 use Rattle.std.proofs.Common.{◌≡◌, ◌++◌, drop, false}
-use Rattle.c_model.specs.Substitution.{uses_from}
+use Rattle.model_macros.specs.Substitution.{uses_from}
 use Rattle.pp_macros.proofs.substitution.uses.Given as goal
 
 abbrev pub invariant-loop-piece : goal.invariant-loop-piece

@@ -1,7 +1,7 @@
 use Rattle.std.proofs.Common.{List, Some, ◌∙◌, ap}
 use Rattle.std.specs.Option.{option_map}
-use Rattle.c_model.specs.Structures as m
-use Rattle.c_model.specs.Layout as l
+use Rattle.model_types.specs.Structures as m
+use Rattle.model_types.specs.Layout as l
 use Rattle.c_types.specs.Extents as s
 use Rattle.c_types.proofs.Laid.{completed_table, completed_view, whole_laid}
 use Rattle.c_types.proofs.structs.Structs.complete.Goals as goal

@@ -1,9 +1,9 @@
 use Rattle.std.proofs.Common.{◌≡◌, ◌∙◌, ap, None, List, ℕ, ◌++◌, ◌∷◌, []}
 use Rattle.std.specs.Map.{lookup as lookup_by}
-use Rattle.c_model.specs.Macros.{same_text}
-use Rattle.c_model.specs.Binding.{bound}
+use Rattle.decl_scope.specs.Binding.{bound}
 use Rattle.decl_scope.proofs.BoundLaws.{added-name, lookup-none, seen}
 use Rattle.decl_scope.proofs.names.Names.add.Goals as goal
+use Rattle.model_types.specs.Texts.{same_text}
 
 pub returns-clause-ok : goal.returns-clause-ok
 returns-clause-ok c =

@@ -1,4 +1,4 @@
-use Rattle.c_model.specs.NotedUses.{used_at}
+use Rattle.decl_scope.specs.NotedUses.{used_at}
 use Rattle.decl_scope.specs.View.{scopes_of}
 use Rattle.decl_scope.proofs.ScopeLaws.{sound_changed}
 use Rattle.decl_scope.proofs.scopes.Scopes.note_use.Goals as goal

@@ -1,5 +1,5 @@
 use Rattle.std.proofs.Common.{ap, sym, ◌∙◌, add-one}
-use Rattle.c_model.specs.Pragmas.{pushes_after}
+use Rattle.model_preprocessing.specs.Pragmas.{pushes_after}
 use Rattle.pp_directives.proofs.StateLaws.{marks-kept}
 use Rattle.pp_directives.proofs.marks.OpenMarks.push.Goals as goal
 use Rattle.pp_directives.proofs.marks.OpenMarks.push.Goals.{in-Push, in-Pop, in-Assign}

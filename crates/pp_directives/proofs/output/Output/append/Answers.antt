@@ -1,7 +1,8 @@
 use Rattle.std.proofs.Common.{◌≡◌, ◌≤◌, ◌-◌, ◌++◌, length, refl, arith, ap, ◌∙◌, sym, None, slice_get}
-use Rattle.c_model.specs.Sources.{standing, ranked_from}
-use Rattle.c_model.specs.ControlLines.{MOST_TOKENS}
-use Rattle.pp_directives.proofs.StateLaws.{hits-limit, fits-all, none_short, copied-none}
+use Rattle.model_preprocessing.specs.Sources.{standing, ranked_from}
+use Rattle.model_preprocessing.specs.ControlLines.{MOST_TOKENS}
+use Rattle.pp_directives.proofs.StateLaws.{hits-limit, fits-all}
+use Rattle.pp_lines.proofs.RankLaws.{none_short, copied-none}
 use Rattle.pp_directives.proofs.output.Output.append.Goals as goal
 
 pub returns-in-Some : goal.returns-in-Some

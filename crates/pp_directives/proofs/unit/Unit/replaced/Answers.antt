@@ -1,6 +1,6 @@
 use Rattle.std.proofs.Common.{sym, ◌∙◌, ap}
 use Rattle.std.proofs.lemmas.Result.{err_from_is_err_and}
-use Rattle.c_model.specs.Sources.{tokens_here}
+use Rattle.model_preprocessing.specs.Sources.{tokens_here}
 use Rattle.pp_directives.proofs.ControlLaws.{replaced-ok, replaced-err}
 use Rattle.pp_directives.proofs.unit.Unit.replaced.Goals as goal
 

@@ -1,5 +1,5 @@
 use Rattle.std.proofs.Common.{◌≡◌, ◌++◌, drop}
-use Rattle.c_model.specs.HideSets.{common}
+use Rattle.model_macros.specs.HideSets.{common}
 use Rattle.pp_macros.proofs.hides.Hides.common.Given as goal
 
 abbrev pub invariant-loop-rank : goal.invariant-loop-rank

@@ -1,6 +1,6 @@
 use Rattle.std.proofs.Common.{◌≡◌, ◌++◌, drop, not}
 use Rattle.std.specs.List.{filter}
-use Rattle.c_model.specs.HideSets.{holds, union}
+use Rattle.model_macros.specs.HideSets.{holds, union}
 use Rattle.pp_macros.proofs.hides.Hides.union.Given as goal
 
 abbrev pub invariant-loop-rank : goal.invariant-loop-rank

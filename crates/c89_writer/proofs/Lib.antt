@@ -1,0 +1,3 @@
+pub mod SideLaws
+pub mod IndentLaws
+pub mod Smaller

@@ -1,6 +1,0 @@
--- The judgement that the definition takes is one, and every other is the same.
-use Rattle.c_model.specs.Conditions.{judged-is, judged-only}
-use Rattle.c_model.proofs.condition_laws.one_judgement.Goals as goal
-
-pub returns : goal.returns
-returns c = record { given = judged-is; only = judged-only }

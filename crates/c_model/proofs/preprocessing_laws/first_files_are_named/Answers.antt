@@ -1,9 +1,0 @@
--- The names of the first files stay in front.
-use Rattle.c_model.proofs.NamesKept.{answered-named, failed-named}
-use Rattle.c_model.proofs.preprocessing_laws.first_files_are_named.Goals as goal
-
-pub returns-clause-answered : goal.returns-clause-answered
-returns-clause-answered c = answered-named
-
-pub returns-clause-failed : goal.returns-clause-failed
-returns-clause-failed c = failed-named

@@ -1,5 +1,0 @@
-use Rattle.c_model.proofs.DefersAlike.{defers_in_list as law}
-use Rattle.c_model.proofs.runs.defers_are_a_list.Goals as goal
-
-pub returns : goal.returns
-returns c = law

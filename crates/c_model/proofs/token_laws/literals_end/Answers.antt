@@ -1,9 +1,0 @@
-use Rattle.std.proofs.Common.{refl}
-use Rattle.c_model.proofs.LiteralLaws.{ends_literal}
-use Rattle.c_model.proofs.token_laws.literals_end.Goals as goal
-
-pub returns : goal.returns
-returns c = record {
-  strings = λ text n. ends_literal 34 text n refl refl;
-  characters = λ text n. ends_literal 39 text n refl refl;
-}

@@ -1,9 +1,0 @@
-//! A worked unit of the grammar, whose tree by its forms the checker computes.
-ghost use Rattle.std.specs.Prelude.{◌≡◌, Some};
-ghost use Rattle.c_model.specs.SyntaxActions.{tree_of};
-ghost use Rattle.c_model.specs.SyntaxExamples.{tokens, whole_tree, whole_unit};
-
-/// The tree of the grammar of `int f(int a) { return a + 1; }` stands for this function.
-pub fn function_of_a_sum()
-    ensures { tree_of tokens whole_tree ≡ Some whole_unit }
-{}

@@ -1,0 +1,10 @@
+pub mod DeclaratorLists
+pub mod EnumeratorLists
+pub mod InitDeclaratorLists
+pub mod InitializerLists
+pub mod MemberLists
+pub mod ParameterLists
+pub mod PointerLists
+pub mod Refusals
+pub mod SpecLists
+pub mod SuffixLists

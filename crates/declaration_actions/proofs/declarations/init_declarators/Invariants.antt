@@ -1,0 +1,11 @@
+use Rattle.std.proofs.Common.{◌≡◌, length}
+use Rattle.model_grammar.specs.SyntaxDeclarationActions as d
+use Rattle.declaration_actions.proofs.InitDeclaratorLists.{before}
+use Rattle.syntax_meanings.specs.Meanings.{symbols_seen}
+use Rattle.declaration_actions.proofs.declarations.init_declarators.Given as goal
+
+abbrev pub invariant-loop-symbol : goal.invariant-loop-symbol
+invariant-loop-symbol l = before l.declarators (d.init_declarators_in (symbols_seen l.symbols)) ≡ d.init_declarators_in (symbols_seen l.initial.symbols)
+
+abbrev pub decreases-loop-symbol : goal.decreases-loop-symbol
+decreases-loop-symbol l = length (symbols_seen l.symbols)

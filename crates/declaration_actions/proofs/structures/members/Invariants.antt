@@ -1,0 +1,11 @@
+use Rattle.std.proofs.Common.{◌≡◌, length}
+use Rattle.model_grammar.specs.SyntaxDeclarationActions as d
+use Rattle.declaration_actions.proofs.MemberLists.{before}
+use Rattle.syntax_meanings.specs.Meanings.{symbols_seen}
+use Rattle.declaration_actions.proofs.structures.members.Given as goal
+
+abbrev pub invariant-loop-symbol : goal.invariant-loop-symbol
+invariant-loop-symbol l = before l.members (d.members_in (symbols_seen l.symbols)) ≡ d.members_in (symbols_seen l.initial.symbols)
+
+abbrev pub decreases-loop-symbol : goal.decreases-loop-symbol
+decreases-loop-symbol l = length (symbols_seen l.symbols)

@@ -1,0 +1,10 @@
+pub mod kinds
+pub mod walks
+pub mod derivations
+pub mod scans
+pub mod enumerations
+pub mod specifier_lists
+pub mod tests_lose_nothing
+pub mod same_language
+pub mod preferred_tree
+pub mod answers

@@ -1,0 +1,13 @@
+pub mod FaultPlace
+pub mod FirstTokens
+pub mod ParserWalk
+pub mod WalkedDerivation
+pub mod ParserTable
+pub mod ParserSets
+pub mod ParserTests
+pub mod Preferences
+pub mod DepthPlace
+pub mod UnitSyntax
+pub mod OneAnswer
+pub mod SyntaxExamples
+pub mod apparatus

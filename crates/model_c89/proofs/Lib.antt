@@ -1,0 +1,16 @@
+pub mod Spelled
+pub mod Respelled
+pub mod ReadingMachine
+pub mod UniqueWords
+pub mod TypesMachine
+pub mod ReadDeclarators
+pub mod UniqueTypes
+pub mod ExpressionsMachine
+pub mod ExpressionFronts
+pub mod UniqueExpressions
+pub mod UniqueLines
+pub mod StatementFronts
+pub mod UniqueStatements
+pub mod UniqueInitializers
+pub mod UniqueHeads
+pub mod UniquePrograms

@@ -1,0 +1,86 @@
+-- Tokens are the condition of one tree at most, and there is exactly one judgement on them.
+use Rattle.std.proofs.Common.{◌≡◌, Bool, List, [], Option, Some, None, Result, Err, refl, sym, ap, ◌∙◌, arith, append-nil}
+use Rattle.model_conditions.specs.declared.conditions.ConditionRule.{ConditionRule}
+use Rattle.model_conditions.specs.declared.conditions.ConditionRule.TheVariants.{Malformed}
+use Rattle.model_conditions.specs.declared.conditions.ConditionToken.{ConditionToken}
+use Rattle.model_conditions.specs.ConditionGrammar.{Condition, constant, unary, binary, choice, CONDITIONAL, Derives}
+use Rattle.model_conditions.specs.ConditionValues as values
+use Rattle.model_conditions.specs.ConditionValues.{Valued, valued, holds}
+use Rattle.model_conditions.specs.apparatus.ConditionReader.{Algebra, given, Filled, whole, read}
+use Rattle.model_conditions.specs.apparatus.ConditionFrames.{stands}
+use Rattle.model_conditions.specs.apparatus.ConditionBuilt.{Found, bare, finds}
+use Rattle.model_conditions.specs.Judgement.{Judged, expression, no_expression}
+
+-- what is a condition is read, and what is read is a condition
+
+pub read-complete : {A : Type 0} (alg : Algebra A) (ts : List ConditionToken) (e : Condition) → Derives CONDITIONAL ts e → read alg ts ≡ Some (given alg e)
+read-complete {A} alg ts e d =
+    let s = stands alg d [] tt [] in
+    ap (read alg) (sym (append-nil ts)) ∙ s.reads ∙ ap (λ (f : Filled A). whole f) (s.fills 0 (omega arith))
+
+pub read-sound : {A : Type 0} (alg : Algebra A) (ts : List ConditionToken) (v : A) → read alg ts ≡ Some v → Found alg v ts
+read-sound alg ts v q = finds alg (record { frames = []; operand = None }) [] (bare refl) ts v q
+
+-- ---- trees
+
+abbrev pub trees : Algebra Condition
+trees = record { of_constant = constant; of_unary = unary; of_binary = binary; of_choice = choice }
+
+given-tree : (e : Condition) → given trees e ≡ e
+given-tree (constant n) = refl
+given-tree (unary op e) = ap (unary op) (given-tree e)
+given-tree (binary op l r) = ap (λ (z : Condition). binary op z (given trees r)) (given-tree l) ∙ ap (binary op l) (given-tree r)
+given-tree (choice c l r) =
+    ap (λ (z : Condition). choice z (given trees l) (given trees r)) (given-tree c)
+    ∙ ap (λ (z : Condition). choice c z (given trees r)) (given-tree l) ∙ ap (choice c l) (given-tree r)
+
+-- a list of tokens is the condition of one tree at most
+pub Derives-unique : (ts : List ConditionToken) (d e : Condition) → Derives CONDITIONAL ts d → Derives CONDITIONAL ts e → d ≡ e
+Derives-unique ts d e p q =
+    let f = read-complete trees ts d p in
+    let g = read-complete trees ts e q in
+    let h : given trees d ≡ given trees e = cc in
+    sym (given-tree d) ∙ h ∙ given-tree e
+
+-- ---- values
+
+abbrev pub computed : Algebra Valued
+computed = record { of_constant = values.of_constant; of_unary = values.of_unary; of_binary = values.of_binary; of_choice = values.of_choice }
+
+given-valued : (e : Condition) → given computed e ≡ valued e
+given-valued (constant n) = refl
+given-valued (unary op e) = ap (values.of_unary op) (given-valued e)
+given-valued (binary op l r) =
+    ap (λ (z : Valued). values.of_binary op z (given computed r)) (given-valued l) ∙ ap (values.of_binary op (valued l)) (given-valued r)
+given-valued (choice c l r) =
+    ap (λ (z : Valued). values.of_choice z (given computed l) (given computed r)) (given-valued c)
+    ∙ ap (λ (z : Valued). values.of_choice (valued c) z (given computed r)) (given-valued l) ∙ ap (values.of_choice (valued c) (valued l)) (given-valued r)
+
+-- what the reader that computes answers
+abbrev pub concluded : Option Valued → Result Bool ConditionRule
+concluded None = Err Malformed
+concluded (Some v) = holds v.value
+
+-- ---- judgements
+
+pub Judged-read : (ts : List ConditionToken) (o : Option Valued) → read computed ts ≡ o → Judged ts (concluded o)
+Judged-read ts None q = no_expression (λ e d. let r = read-complete computed ts e d in cc) refl
+Judged-read ts (Some v) q =
+    let f = read-sound computed ts v q in
+    let w : v ≡ valued f.e = f.value ∙ given-valued f.e in
+    expression f.e f.derives (ap (λ (z : Valued). holds z.value) w)
+
+pub record Judges (ts : List ConditionToken) : Type 0 where
+  pub answer : Result Bool ConditionRule
+  pub is_judged : Judged ts answer
+
+-- the judgement is what the reader that computes concludes
+pub Judged-total : (ts : List ConditionToken) → Judges ts
+Judged-total ts = record { answer = concluded (read computed ts); is_judged = Judged-read ts (read computed ts) refl }
+
+pub Judged-unique : {ts : List ConditionToken} {a b : Result Bool ConditionRule} → Judged ts a → Judged ts b → a ≡ b
+Judged-unique {ts} (expression d p q) (expression e r s) =
+    let t = Derives-unique ts d e p r in q ∙ ap (λ (z : Condition). holds (valued z).value) t ∙ sym s
+Judged-unique (expression d p q) (no_expression r s) = absurd (r d p)
+Judged-unique (no_expression p q) (expression e r s) = absurd (p e r)
+Judged-unique (no_expression p q) (no_expression r s) = q ∙ sym s

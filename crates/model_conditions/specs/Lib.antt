@@ -1,0 +1,8 @@
+pub mod Defined
+pub mod ConditionTokens
+pub mod ConditionGrammar
+pub mod ConditionValues
+pub mod ConditionReading
+pub mod Judgement
+pub mod Conditions
+pub mod apparatus

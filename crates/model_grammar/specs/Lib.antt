@@ -1,0 +1,13 @@
+pub mod SyntaxForms
+pub mod GrammarForm
+pub mod Terminals
+pub mod NameScopes
+pub mod Derivation
+pub mod Grammar
+pub mod SyntaxTree
+pub mod TerminalsOf
+pub mod SyntaxValues
+pub mod SyntaxExprActions
+pub mod SyntaxDeclarationActions
+pub mod SyntaxStatementActions
+pub mod SyntaxActions

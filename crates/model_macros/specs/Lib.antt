@@ -1,0 +1,10 @@
+pub mod Macros
+pub mod ReplacementLists
+pub mod MacroDefinitions
+pub mod HideSets
+pub mod MacroArguments
+pub mod Pasting
+pub mod Substitution
+pub mod Expansion
+pub mod ExpansionFunction
+pub mod apparatus

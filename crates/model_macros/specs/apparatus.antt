@@ -1,0 +1,4 @@
+-- What proofs need below: that recursions end, and how the logic stores a type. Nothing here is to be believed.
+pub mod ExpansionSteps
+pub mod ExpansionRules
+pub mod ExpansionTotal

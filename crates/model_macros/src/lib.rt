@@ -1,0 +1,4 @@
+//! Macros, their definitions and their replacement.
+#![tactic(auto)]
+
+pub mod macros;

@@ -1,0 +1,15 @@
+pub mod Place
+pub mod Directives
+pub mod Conditionals
+pub mod Pragmas
+pub mod Includes
+pub mod Headers
+pub mod Processes
+pub mod Sources
+pub mod ControlLines
+pub mod ConditionalLines
+pub mod Preprocessing
+pub mod FileSearch
+pub mod Included
+pub mod PreprocessedUnit
+pub mod PreprocessingLaws

@@ -1,0 +1,4 @@
+//! Memory, accesses, and the runs of units.
+#![tactic(auto)]
+
+pub mod runs;

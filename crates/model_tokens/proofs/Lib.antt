@@ -1,0 +1,2 @@
+pub mod PpNumberLaws
+pub mod LiteralLaws

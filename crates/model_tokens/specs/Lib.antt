@@ -1,0 +1,10 @@
+pub mod PpTokens
+pub mod JoinedLines
+pub mod PpSteps
+pub mod Literals
+pub mod PpNumbers
+pub mod Digits
+pub mod IntegerConstants
+pub mod FloatingConstants
+pub mod Characters
+pub mod CTokens

@@ -1,0 +1,11 @@
+pub mod Operations
+pub mod Conversions
+pub mod Types
+pub mod Structures
+pub mod Layout
+pub mod Compatible
+pub mod Shapes
+pub mod ByteClasses
+pub mod Vocabulary
+pub mod Texts
+pub mod apparatus

@@ -1,0 +1,3 @@
+-- What proofs need below: that recursions end, and how the logic stores a type. Nothing here is to be believed.
+pub mod TypesCode
+pub mod LeafCode

@@ -1,0 +1,4 @@
+pub mod NamesLaws
+pub mod HeadingLaws
+pub mod PieceLaws
+pub mod TableLaws

@@ -1,6 +1,0 @@
-use Rattle.std.proofs.Common.{◌≡◌, drop}
-use Rattle.c_model.specs.Includes.{up_to_close, with_spelling}
-use Rattle.pp_directives.proofs.names.up_to_close.Given as goal
-
-abbrev pub invariant-loop-at : goal.invariant-loop-at
-invariant-loop-at l = with_spelling l.text (up_to_close (drop l.at l.toks)) ≡ up_to_close (drop l.from l.toks)

@@ -1,0 +1,3 @@
+pub mod BlockItemLists
+pub mod IterationLaws
+pub mod Refusals

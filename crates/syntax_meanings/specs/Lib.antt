@@ -1,0 +1,3 @@
+pub mod FirstSymbols
+pub mod Meanings
+pub mod RightSides
