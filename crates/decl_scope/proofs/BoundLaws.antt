@@ -2,7 +2,7 @@
 use Rattle.std.proofs.Common.{◌≡◌, ℕ, Bool, true, false, List, [], ◌∷◌, ◌++◌, map, Option, Some, None, refl, ap, sym, ◌∙◌, cond}
 use Rattle.std.specs.Map.{lookup as lookup_by}
 use Rattle.std.proofs.lemmas.List.{map-append}
-use Rattle.decl_scope.specs.Binding.{bound}
+use Rattle.model_scopes.specs.Binding.{bound}
 use Rattle.indexmap.specs.IndexMap.{insert_entry}
 use Rattle.model_types.specs.Texts.{same_text}
 

@@ -6,7 +6,7 @@ use Rattle.model_types.specs.declared.numbers.Basic.{Basic}
 use Rattle.model_types.specs.declared.types.Quals.{Quals}
 use Rattle.model_types.specs.Types.{CType, typed, Form, Void, Integer, Enum, Pointer, Array, Struct, Function, Types, no_types, more_types}
 use Rattle.model_types.specs.Compatible.{ordinal, same_basic, same_bool, same_ownership, same_quals, lengths_agree, compatible, compatible_passed, compatible_forms, compatible_lists}
-use Rattle.decl_scope.specs.CompositeTypes.{known_length, composite, composite_form, composite_types}
+use Rattle.model_scopes.specs.CompositeTypes.{known_length, composite, composite_form, composite_types}
 
 twice : (a : Bool) → a ≡ (a && a)
 twice true = refl

@@ -2,8 +2,8 @@
 use Rattle.std.proofs.Common.{◌≡◌, ℕ, zero, suc, ◌+◌, ◌<◌, ◌≤◌, Bool, true, false, ◌&&◌, List, [], ◌∷◌, ◌++◌, length, drop, get_or, Option, Some, None, refl, ap, sym, ◌∙◌, cond, arith, slice_get}
 use Rattle.std.proofs.lemmas.List.{append-nil, drop_all}
 use Rattle.model_types.specs.Types.{CType, Types, no_types, more_types, types}
-use Rattle.decl_scope.specs.CompositeTypes.{composite, composite_types}
-use Rattle.decl_scope.specs.SameTypedefs.{same_passed, same_passed_lists}
+use Rattle.model_scopes.specs.CompositeTypes.{composite, composite_types}
+use Rattle.model_scopes.specs.SameTypedefs.{same_passed, same_passed_lists}
 use Rattle.model_types.specs.Types.{Function, form_of_type, type_nodes, types_nodes, typed}
 use Rattle.c_types.specs.declared.types.TypeForm.{TypeForm}
 use Rattle.c_types.specs.declared.types.TypeForm.TheVariants as form

@@ -2,20 +2,20 @@
 use Rattle.std.proofs.Common.{◌≡◌, ℕ, ◌+◌, ◌<◌, ◌≤◌, Bool, true, false, ◌&&◌, ◌||◌, not, List, [], ◌∷◌, ◌++◌, length, length-append, Option, Some, None, Result, Ok, Err, OnOk, OnErr, IsTrue, IfSome, refl, ap, sym, subst, ◌∙◌, cond, arith}
 use Rattle.std.specs.Option.{is_some}
 use Rattle.cake_base.specs.declared.places.Place.{Place}
-use Rattle.decl_scope.specs.declared.declarations.Kind.{Kind}
-use Rattle.decl_scope.specs.declared.declarations.Kind.TheVariants.{Object, Function, TypeName, Enumerator, Tag}
-use Rattle.decl_scope.specs.declared.declarations.Linkage.{Linkage}
+use Rattle.model_scopes.specs.declared.declarations.Kind.{Kind}
+use Rattle.model_scopes.specs.declared.declarations.Kind.TheVariants.{Object, Function, TypeName, Enumerator, Tag}
+use Rattle.model_scopes.specs.declared.declarations.Linkage.{Linkage}
 use Rattle.model_types.specs.Types as t
 use Rattle.model_types.specs.Types.{CType, form_of_type}
 use Rattle.model_types.specs.Structures.{Member, Structure, completed, names_below, knows}
-use Rattle.decl_scope.specs.CompositeTypes.{with_length}
-use Rattle.decl_scope.specs.Declarations.{Value, Declaration, fits, fits_kind, has_linkage, is_tag, linkage_by, is_present}
-use Rattle.decl_scope.specs.Scopes as m
-use Rattle.decl_scope.specs.Scopes.{Declared, Level, Scopes, with_id, is_declared, changed, with_struct, with_members, enter, leave, drawn}
-use Rattle.decl_scope.specs.Binding.{bound, here, look}
-use Rattle.decl_scope.specs.DeclarationRules.{shared_id, shared_by, linked_id}
-use Rattle.decl_scope.specs.Declaring.{naming, with_linked, first_declared, declare_first, declare_again, redeclared, kept_type, types_before, settled, settle}
-use Rattle.decl_scope.specs.NotedUses.{used_at, note_use}
+use Rattle.model_scopes.specs.CompositeTypes.{with_length}
+use Rattle.model_scopes.specs.Declarations.{Value, Declaration, fits, fits_kind, has_linkage, is_tag, linkage_by, is_present}
+use Rattle.model_scopes.specs.Scopes as m
+use Rattle.model_scopes.specs.Scopes.{Declared, Level, Scopes, with_id, is_declared, changed, with_struct, with_members, enter, leave, drawn}
+use Rattle.model_scopes.specs.Binding.{bound, here, look}
+use Rattle.model_scopes.specs.DeclarationRules.{shared_id, shared_by, linked_id}
+use Rattle.model_scopes.specs.Declaring.{naming, with_linked, first_declared, declare_first, declare_again, redeclared, kept_type, types_before, settled, settle}
+use Rattle.model_scopes.specs.NotedUses.{used_at, note_use}
 use Rattle.c_types.proofs.Growth.{length_completed}
 use Rattle.decl_scope.specs.Later.{taken}
 use Rattle.decl_scope.specs.Soundness.{AreDeclared, LevelsDeclared, AreBelow, AreFit, IsSound}

@@ -2,10 +2,10 @@
 use Rattle.std.proofs.Common.{◌≡◌, ℕ, zero, suc, ◌+◌, ◌<◌, ◌≤◌, Bool, true, false, ◌&&◌, ◌||◌, not, nat_eq, List, [], ◌∷◌, ◌++◌, length, length-append, Option, Some, None, IsTrue, refl, ap, sym, subst, ◌∙◌, cond, arith}
 use Rattle.std.specs.Option.{is_some}
 use Rattle.model_types.specs.Structures.{Member, Structure, completed, names_below}
-use Rattle.decl_scope.specs.Declarations.{Declaration, fits}
-use Rattle.decl_scope.specs.Scopes.{Declared, Level, Scopes, with_id, is_declared, changed}
-use Rattle.decl_scope.specs.Binding.{bound, name_space, bound_in, bound_among, or_else}
-use Rattle.decl_scope.specs.Declaring.{with_name, with_name_if_new, naming, with_linked}
+use Rattle.model_scopes.specs.Declarations.{Declaration, fits}
+use Rattle.model_scopes.specs.Scopes.{Declared, Level, Scopes, with_id, is_declared, changed}
+use Rattle.model_scopes.specs.Binding.{bound, name_space, bound_in, bound_among, or_else}
+use Rattle.model_scopes.specs.Declaring.{with_name, with_name_if_new, naming, with_linked}
 use Rattle.c_types.proofs.Growth.{names_more, length_completed}
 use Rattle.decl_scope.specs.Soundness.{AreDeclared, LevelsDeclared, AreBelow, AreFit, IsSound}
 use Rattle.model_types.specs.Texts.{same_text}

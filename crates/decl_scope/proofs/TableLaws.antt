@@ -5,8 +5,8 @@ use Rattle.std.specs.Option.{option_map, is_some}
 use Rattle.std.specs.Map.{keys_of, values_of, lookup as lookup_by}
 use Rattle.indexmap.specs.IndexMap.{set_value_at}
 use Rattle.cake_base.specs.declared.places.Place.{Place}
-use Rattle.decl_scope.specs.Scopes.{Declared, with_id, changed}
-use Rattle.decl_scope.specs.NotedUses.{first_undefined, first_of, unmet_use}
+use Rattle.model_scopes.specs.Scopes.{Declared, with_id, changed}
+use Rattle.model_scopes.specs.NotedUses.{first_undefined, first_of, unmet_use}
 
 less_next : (a b : ℕ) → nat_lt (suc a) (suc b) ≡ nat_lt a b
 less_next a b = grind arith

@@ -2,9 +2,9 @@
 use Rattle.std.proofs.Common.{◌≡◌, ℕ, zero, suc, ◌<◌, ◌≤◌, Bool, true, false, nat_lt, List, [], ◌∷◌, Option, Some, None, option_map, slice_get, refl, ap, sym, ◌∙◌, cond, arith, inl, inr, ◌⊎◌}
 use Rattle.cake_base.specs.declared.places.Place.{Place}
 use Rattle.cake_base.specs.declared.rules.Fault.{Fault}
-use Rattle.decl_scope.specs.Scopes.{Declared, Scopes}
-use Rattle.decl_scope.specs.DeclarationRules.{constraint_at}
-use Rattle.decl_scope.specs.NotedUses.{first_place, first_of, unmet_use, first_undefined, unresolved}
+use Rattle.model_scopes.specs.Scopes.{Declared, Scopes}
+use Rattle.model_scopes.specs.DeclarationRules.{constraint_at}
+use Rattle.model_scopes.specs.NotedUses.{first_place, first_of, unmet_use, first_undefined, unresolved}
 
 place_left : (p q : Place) → (first_place p q).order ≤ p.order
 place_left p q = by (nat_lt q.order p.order) refl

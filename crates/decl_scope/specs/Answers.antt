@@ -1,10 +1,10 @@
 -- What a declaration answers.
 use Rattle.std.specs.Prelude.{◌≡◌, ℕ, Some, None, Result, Ok, Err}
 use Rattle.model_types.specs.declared.marks.DeclId.{DeclId}
-use Rattle.decl_scope.specs.Declarations.{Declaration}
-use Rattle.decl_scope.specs.Scopes.{Scopes}
-use Rattle.decl_scope.specs.DeclarationRules.{broken_rule, constraint_at}
-use Rattle.decl_scope.specs.Declaring.{declare, id_of}
+use Rattle.model_scopes.specs.Declarations.{Declaration}
+use Rattle.model_scopes.specs.Scopes.{Scopes}
+use Rattle.model_scopes.specs.DeclarationRules.{broken_rule, constraint_at}
+use Rattle.model_scopes.specs.Declaring.{declare, id_of}
 use Rattle.decl_scope.specs.declared.errors.ScopeError.{ScopeError}
 use Rattle.decl_scope.specs.declared.errors.ScopeError.TheVariants as scope_error
 

@@ -1,8 +1,8 @@
 -- A later declaration of an id, with what was made of the types before it.
 use Rattle.std.specs.Prelude.{ℕ, ◌||◌, Option}
 use Rattle.model_types.specs.Types.{CType}
-use Rattle.decl_scope.specs.Declarations.{Declaration}
-use Rattle.decl_scope.specs.Scopes.{Declared}
+use Rattle.model_scopes.specs.Declarations.{Declaration}
+use Rattle.model_scopes.specs.Scopes.{Declared}
 
 abbrev pub taken : Declaration → Option CType → (scope : ℕ) → Declared → Declared
 taken entry before scope old = record { latest = entry; before = before; defined = old.defined || entry.defines; scope = scope; used = old.used }

@@ -1,15 +1,6 @@
-pub mod Declarations
-pub mod Scopes
-pub mod Binding
-pub mod CompositeTypes
-pub mod SameTypedefs
-pub mod DeclarationRules
-pub mod Declaring
-pub mod NotedUses
 pub mod Values
 pub mod Parameters
 pub mod Later
 pub mod Soundness
 pub mod View
 pub mod Answers
-pub mod apparatus

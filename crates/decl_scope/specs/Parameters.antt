@@ -1,7 +1,7 @@
 -- Types of parameters, one by one.
 use Rattle.std.specs.Prelude.{List, [], ◌∷◌, Option, Some, None}
 use Rattle.model_types.specs.Types.{CType}
-use Rattle.decl_scope.specs.CompositeTypes.{composite}
+use Rattle.model_scopes.specs.CompositeTypes.{composite}
 
 -- a type with that of another declaration, where there is one
 abbrev pub composite_if_any : CType → Option CType → CType

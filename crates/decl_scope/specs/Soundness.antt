@@ -2,8 +2,8 @@
 -- and declarations fit their kinds and name structures that are there.
 use Rattle.std.specs.Prelude.{ℕ, ◌<◌, List, [], ◌∷◌, length, IsTrue}
 use Rattle.model_types.specs.Structures.{names_below}
-use Rattle.decl_scope.specs.Declarations.{fits}
-use Rattle.decl_scope.specs.Scopes.{Declared, Level, Scopes, is_declared}
+use Rattle.model_scopes.specs.Declarations.{fits}
+use Rattle.model_scopes.specs.Scopes.{Declared, Level, Scopes, is_declared}
 
 abbrev pub AreDeclared : List (ℕ × Declared) → List (List ℕ × ℕ) → Type 0
 AreDeclared ds [] = Unit {0}

@@ -1,7 +1,7 @@
 -- Values of declarations as contracts see them.
 use Rattle.std.specs.Prelude.{Option, Some, None}
 use Rattle.model_types.specs.declared.numbers.Const.{Const}
-use Rattle.decl_scope.specs.Declarations.{Value}
+use Rattle.model_scopes.specs.Declarations.{Value}
 
 abbrev pub value_of : Const → Value
 value_of c = record { value = c.value; basic = c.basic }

@@ -1,5 +1,5 @@
 -- The scopes as contracts see them.
-use Rattle.decl_scope.specs.Scopes as m
+use Rattle.model_scopes.specs.Scopes as m
 use Rattle.decl_scope.specs.declared.scopes.Scopes.TheInside.{Inside}
 
 abbrev pub scopes_of : Inside → m.Scopes

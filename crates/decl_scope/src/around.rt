@@ -1,7 +1,7 @@
 //! The scopes round the innermost one.
 ghost use Rattle.std.specs.Prelude.{◌≡◌, [], ◌∷◌, List, MatchOption, OnOk, IfErr, OnErr};
-ghost use Rattle.decl_scope.specs.Scopes as m;
-ghost use Rattle.decl_scope.specs.Binding as b;
+ghost use Rattle.model_scopes.specs.Scopes as m;
+ghost use Rattle.model_scopes.specs.Binding as b;
 
 use crate::level::Level;
 use std::alloc::Global;
@@ -15,7 +15,7 @@ pub struct Around {
 
 impl Model for Around {
     ghost use Rattle.std.specs.Prelude.{List, reverse};
-    ghost use Rattle.decl_scope.specs.Scopes as m;
+    ghost use Rattle.model_scopes.specs.Scopes as m;
 
     ghost Value = { List m.Level };
 

@@ -3,7 +3,7 @@ ghost use Rattle.std.specs.Prelude.{◌≡◌, IfOk, [], ◌∷◌, false};
 ghost use Rattle.model_types.specs.Types as t;
 ghost use Rattle.model_core.specs.CoreTypes as p;
 ghost use Rattle.model_core.specs.BuiltinTypes as m;
-ghost use Rattle.decl_scope.specs.DeclarationRules as r;
+ghost use Rattle.model_scopes.specs.DeclarationRules as r;
 ghost use Rattle.c_types.specs.Forms.{form_of};
 
 use c_types::{CType, TypeForm, TypeList};

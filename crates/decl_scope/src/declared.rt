@@ -1,9 +1,9 @@
 //! What has an id.
 ghost use Rattle.std.specs.Prelude.{◌≡◌};
 ghost use Rattle.std.specs.Option.{option_copied};
-ghost use Rattle.decl_scope.specs.Scopes as m;
-ghost use Rattle.decl_scope.specs.Declaring as d;
-ghost use Rattle.decl_scope.specs.NotedUses as u;
+ghost use Rattle.model_scopes.specs.Scopes as m;
+ghost use Rattle.model_scopes.specs.Declaring as d;
+ghost use Rattle.model_scopes.specs.NotedUses as u;
 ghost use Rattle.decl_scope.specs.Values.{value_if_any};
 ghost use Rattle.decl_scope.specs.Later.{taken};
 
@@ -24,8 +24,8 @@ pub struct Declared {
 }
 
 impl Model for Declared {
-    ghost use Rattle.decl_scope.specs.Scopes as m;
-    ghost use Rattle.decl_scope.specs.apparatus.DeclarationCode.{coded_declared};
+    ghost use Rattle.model_scopes.specs.Scopes as m;
+    ghost use Rattle.model_scopes.specs.apparatus.DeclarationCode.{coded_declared};
 
     ghost Value = { m.Declared };
 

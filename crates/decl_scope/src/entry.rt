@@ -1,9 +1,9 @@
 //! A declaration of a name.
 ghost use Rattle.std.specs.Prelude.{◌≡◌, ◌&&◌};
-ghost use Rattle.decl_scope.specs.Declarations as m;
-ghost use Rattle.decl_scope.specs.NotedUses as u;
+ghost use Rattle.model_scopes.specs.Declarations as m;
+ghost use Rattle.model_scopes.specs.NotedUses as u;
 
-use crate::declarations::{Kind, Linkage};
+use model_scopes::declarations::{Kind, Linkage};
 use c_types::CType;
 use cake_base::{Bytes, Place};
 use model_types::numbers::Const;
@@ -28,8 +28,8 @@ pub struct Entry {
 }
 
 impl Model for Entry {
-    ghost use Rattle.decl_scope.specs.Declarations as m;
-    ghost use Rattle.decl_scope.specs.apparatus.DeclarationCode.{coded_declaration};
+    ghost use Rattle.model_scopes.specs.Declarations as m;
+    ghost use Rattle.model_scopes.specs.apparatus.DeclarationCode.{coded_declaration};
 
     ghost Value = { m.Declaration };
 

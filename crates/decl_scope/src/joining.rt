@@ -1,11 +1,11 @@
 //! A declaration in its scope: the first of an id, and later ones.
 ghost use Rattle.std.specs.Prelude.{◌≡◌, ◌++◌, ◌∷◌, [], ℕ, List, None, true, if◌then◌else◌, IfOk, OnOk, OnErr};
 ghost use Rattle.std.specs.Option.{option_copied};
-ghost use Rattle.decl_scope.specs.CompositeTypes as t;
-ghost use Rattle.decl_scope.specs.Declarations as d;
-ghost use Rattle.decl_scope.specs.Scopes as m;
-ghost use Rattle.decl_scope.specs.Declaring as j;
-ghost use Rattle.decl_scope.specs.Binding as b;
+ghost use Rattle.model_scopes.specs.CompositeTypes as t;
+ghost use Rattle.model_scopes.specs.Declarations as d;
+ghost use Rattle.model_scopes.specs.Scopes as m;
+ghost use Rattle.model_scopes.specs.Declaring as j;
+ghost use Rattle.model_scopes.specs.Binding as b;
 ghost use Rattle.decl_scope.specs.Later.{taken};
 
 use crate::composites::{composite, with_length};

@@ -4,9 +4,9 @@ ghost use Rattle.cake_base.specs.declared.places.Place.{Place};
 ghost use Rattle.cake_base.specs.declared.rules.Fault.{Fault};
 ghost use Rattle.model_types.specs.Types.{CType};
 ghost use Rattle.model_types.specs.Compatible.{compatible};
-ghost use Rattle.decl_scope.specs.CompositeTypes.{composite};
-ghost use Rattle.decl_scope.specs.Scopes.{Declared, Scopes};
-ghost use Rattle.decl_scope.specs.NotedUses.{unmet_use, unresolved};
+ghost use Rattle.model_scopes.specs.CompositeTypes.{composite};
+ghost use Rattle.model_scopes.specs.Scopes.{Declared, Scopes};
+ghost use Rattle.model_scopes.specs.NotedUses.{unmet_use, unresolved};
 
 /// A type is compatible with the composite type of two compatible types exactly where it is
 /// compatible with both. So a redeclaration is compared with all declarations before it.

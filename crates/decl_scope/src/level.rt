@@ -1,8 +1,8 @@
 //! A scope and the names that are declared in it.
 ghost use Rattle.std.specs.Prelude.{◌≡◌, Some, None, OnOk, OnErr};
-ghost use Rattle.decl_scope.specs.Scopes as m;
-ghost use Rattle.decl_scope.specs.Binding as b;
-ghost use Rattle.decl_scope.specs.Declaring as d;
+ghost use Rattle.model_scopes.specs.Scopes as m;
+ghost use Rattle.model_scopes.specs.Binding as b;
+ghost use Rattle.model_scopes.specs.Declaring as d;
 
 use crate::names::Names;
 use cake_base::NoMemory;
@@ -19,7 +19,7 @@ pub struct Level {
 }
 
 impl Model for Level {
-    ghost use Rattle.decl_scope.specs.Scopes as m;
+    ghost use Rattle.model_scopes.specs.Scopes as m;
 
     ghost Value = { m.Level };
 

@@ -4,7 +4,6 @@
 mod around;
 mod built_ins;
 mod composites;
-mod declarations;
 mod declared;
 mod entry;
 mod errors;
@@ -17,8 +16,8 @@ mod scopes;
 mod table;
 mod typedefs;
 
-pub use declarations::{Kind, Linkage};
 pub use entry::Entry;
 pub use errors::ScopeError;
+pub use model_scopes::declarations::{Kind, Linkage};
 pub use model_types::marks::DeclId;
 pub use scopes::Scopes;

@@ -1,6 +1,6 @@
 //! Names with their ids.
 ghost use Rattle.std.specs.Prelude.{◌≡◌, ◌++◌, ◌∷◌, [], ℕ, List, None, OnOk, OnErr};
-ghost use Rattle.decl_scope.specs.Binding as b;
+ghost use Rattle.model_scopes.specs.Binding as b;
 
 use cake_base::NoMemory;
 use indexmap::IndexMap;

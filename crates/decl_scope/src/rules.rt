@@ -2,10 +2,10 @@
 ghost use Rattle.std.specs.Prelude.{◌≡◌, IfOk};
 ghost use Rattle.std.specs.Option.{option_copied};
 ghost use Rattle.model_types.specs.Types.{form_of_type};
-ghost use Rattle.decl_scope.specs.DeclarationRules as m;
+ghost use Rattle.model_scopes.specs.DeclarationRules as m;
 
 use crate::built_ins::built_in_type;
-use crate::declarations::{Kind, Linkage};
+use model_scopes::declarations::{Kind, Linkage};
 use crate::declared::Declared;
 use crate::entry::Entry;
 use crate::typedefs::same_typedef;

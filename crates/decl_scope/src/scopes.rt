@@ -4,17 +4,17 @@ ghost use Rattle.std.specs.Option.{option_map, option_copied};
 ghost use Rattle.std.specs.List.{list_all};
 ghost use Rattle.model_types.specs.Structures as t;
 ghost use Rattle.model_types.specs.Layout as l;
-ghost use Rattle.decl_scope.specs.Declarations as d;
-ghost use Rattle.decl_scope.specs.Scopes as m;
-ghost use Rattle.decl_scope.specs.Binding as b;
-ghost use Rattle.decl_scope.specs.DeclarationRules as r;
-ghost use Rattle.decl_scope.specs.Declaring as j;
-ghost use Rattle.decl_scope.specs.NotedUses as u;
+ghost use Rattle.model_scopes.specs.Declarations as d;
+ghost use Rattle.model_scopes.specs.Scopes as m;
+ghost use Rattle.model_scopes.specs.Binding as b;
+ghost use Rattle.model_scopes.specs.DeclarationRules as r;
+ghost use Rattle.model_scopes.specs.Declaring as j;
+ghost use Rattle.model_scopes.specs.NotedUses as u;
 ghost use Rattle.decl_scope.specs.Values.{value_if_any};
 ghost use Rattle.decl_scope.specs.Answers.{Declares};
 
 use crate::around::Around;
-use crate::declarations::{Kind, Linkage};
+use model_scopes::declarations::{Kind, Linkage};
 use crate::declared::Declared;
 use crate::entry::Entry;
 use crate::errors::ScopeError;
@@ -48,8 +48,8 @@ pub struct Scopes {
 }
 
 impl Model for Scopes {
-    ghost use Rattle.decl_scope.specs.Scopes as m;
-    ghost use Rattle.decl_scope.specs.apparatus.ScopesCode.{coded_scopes};
+    ghost use Rattle.model_scopes.specs.Scopes as m;
+    ghost use Rattle.model_scopes.specs.apparatus.ScopesCode.{coded_scopes};
 
     ghost Value = { m.Scopes };
 

@@ -1,9 +1,9 @@
 //! What is declared, by its id.
 ghost use Rattle.std.specs.Prelude.{◌≡◌, ◌++◌, ◌∷◌, [], ℕ, List, None, OnOk, OnErr};
 ghost use Rattle.std.specs.Option.{option_copied};
-ghost use Rattle.decl_scope.specs.Scopes as m;
-ghost use Rattle.decl_scope.specs.Declaring as d;
-ghost use Rattle.decl_scope.specs.NotedUses as u;
+ghost use Rattle.model_scopes.specs.Scopes as m;
+ghost use Rattle.model_scopes.specs.Declaring as d;
+ghost use Rattle.model_scopes.specs.NotedUses as u;
 ghost use Rattle.decl_scope.specs.Values.{value_if_any};
 ghost use Rattle.decl_scope.specs.Later.{taken};
 
@@ -25,8 +25,8 @@ pub struct Table {
 impl Model for Table {
     ghost use Rattle.std.specs.Prelude.{List, ℕ};
     ghost use Rattle.std.specs.Coded.{coded_list, coded×, coded_ℕ};
-    ghost use Rattle.decl_scope.specs.Scopes as m;
-    ghost use Rattle.decl_scope.specs.apparatus.DeclarationCode.{coded_declared};
+    ghost use Rattle.model_scopes.specs.Scopes as m;
+    ghost use Rattle.model_scopes.specs.apparatus.DeclarationCode.{coded_declared};
 
     ghost Value = { List (ℕ × m.Declared) };
 

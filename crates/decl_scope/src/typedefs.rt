@@ -2,7 +2,7 @@
 ghost use Rattle.std.specs.Prelude.{◌≡◌};
 ghost use Rattle.model_types.specs.Types as t;
 ghost use Rattle.model_core.specs.SameTypes as s;
-ghost use Rattle.decl_scope.specs.SameTypedefs as m;
+ghost use Rattle.model_scopes.specs.SameTypedefs as m;
 ghost use Rattle.c_types.specs.Forms.{form_of};
 
 use c_types::{CType, TypeForm, same_ownership, same_quals};

@@ -1,8 +1,8 @@
 use Rattle.std.proofs.Common.{◌≡◌, ◌∙◌, ap}
 use Rattle.std.specs.Option.{option_copied}
-use Rattle.decl_scope.specs.Scopes.{changed}
-use Rattle.decl_scope.specs.Declarations.{Declaration, is_tag}
-use Rattle.decl_scope.specs.Declaring.{naming}
+use Rattle.model_scopes.specs.Scopes.{changed}
+use Rattle.model_scopes.specs.Declarations.{Declaration, is_tag}
+use Rattle.model_scopes.specs.Declaring.{naming}
 use Rattle.decl_scope.specs.Later.{taken}
 use Rattle.decl_scope.proofs.ScopeLaws.{taken_again, on_ok}
 use Rattle.decl_scope.proofs.joining.declare_again.Goals as goal

@@ -1,6 +1,6 @@
 use Rattle.std.proofs.Common.{◌≡◌, ◌≤◌, ◌+◌, ◌*◌, length, drop}
 use Rattle.model_types.specs.Types as t
-use Rattle.decl_scope.specs.SameTypedefs as m
+use Rattle.model_scopes.specs.SameTypedefs as m
 use Rattle.c_types.specs.Forms.{form_of}
 use Rattle.decl_scope.proofs.typedefs.+same.Given as goal
 

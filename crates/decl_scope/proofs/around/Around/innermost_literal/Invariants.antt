@@ -1,5 +1,5 @@
 use Rattle.std.proofs.Common.{◌≡◌, ◌≤◌, length, take, reverse}
-use Rattle.decl_scope.specs.Binding as b
+use Rattle.model_scopes.specs.Binding as b
 use Rattle.decl_scope.proofs.around.Around.innermost_literal.Given as goal
 
 abbrev pub invariant-loop-at : goal.invariant-loop-at

@@ -1,6 +1,6 @@
 use Rattle.std.proofs.Common.{◌≡◌, ◌∙◌, ap, None, List, ℕ, ◌++◌, ◌∷◌, []}
 use Rattle.std.specs.Map.{lookup as lookup_by}
-use Rattle.decl_scope.specs.Binding.{bound}
+use Rattle.model_scopes.specs.Binding.{bound}
 use Rattle.decl_scope.proofs.BoundLaws.{added-name, lookup-none, seen}
 use Rattle.decl_scope.proofs.names.Names.add.Goals as goal
 use Rattle.model_types.specs.Texts.{same_text}

@@ -1,5 +1,5 @@
 use Rattle.std.proofs.Common.{◌∙◌, ap}
-use Rattle.decl_scope.specs.Binding.{bound}
+use Rattle.model_scopes.specs.Binding.{bound}
 use Rattle.decl_scope.proofs.BoundLaws.{bound-lookup}
 use Rattle.decl_scope.proofs.names.Names.get.Goals as goal
 

@@ -1,8 +1,8 @@
 use Rattle.std.proofs.Common.{◌≡◌, ◌∙◌, ap, sym, subst, IsTrue}
 use Rattle.model_types.specs.Structures.{knows}
-use Rattle.decl_scope.specs.Scopes.{is_declared}
-use Rattle.decl_scope.specs.DeclarationRules.{shared_id}
-use Rattle.decl_scope.specs.Declaring.{redeclared}
+use Rattle.model_scopes.specs.Scopes.{is_declared}
+use Rattle.model_scopes.specs.DeclarationRules.{shared_id}
+use Rattle.model_scopes.specs.Declaring.{redeclared}
 use Rattle.decl_scope.specs.View.{scopes_of}
 use Rattle.decl_scope.specs.Soundness.{IsSound}
 use Rattle.decl_scope.proofs.SoundLaws.{keeps_changed}

@@ -1,7 +1,7 @@
 use Rattle.std.proofs.Common.{◌≡◌, ◌∙◌, ap, sym, subst, IsTrue}
 use Rattle.model_types.specs.Structures.{knows}
-use Rattle.decl_scope.specs.Scopes.{is_declared}
-use Rattle.decl_scope.specs.Declaring.{first_declared}
+use Rattle.model_scopes.specs.Scopes.{is_declared}
+use Rattle.model_scopes.specs.Declaring.{first_declared}
 use Rattle.decl_scope.specs.View.{scopes_of}
 use Rattle.decl_scope.specs.Soundness.{IsSound}
 use Rattle.decl_scope.proofs.SoundLaws.{below_absent, declared_last}

@@ -1,6 +1,6 @@
 use Rattle.std.proofs.Common.{◌≡◌, ◌∙◌, Some, ap, sym, subst, IsTrue, length}
 use Rattle.std.specs.Option.{option_copied}
-use Rattle.decl_scope.specs.Declarations.{fits}
+use Rattle.model_scopes.specs.Declarations.{fits}
 use Rattle.model_types.specs.Structures.{knows, names_below}
 use Rattle.decl_scope.proofs.SoundLaws.{fit_at}
 use Rattle.decl_scope.proofs.scopes.Scopes.entry.Goals as goal

@@ -1,6 +1,6 @@
 use Rattle.std.proofs.Common.{◌≡◌, ◌∙◌, Some, None, ap, sym, subst, IsTrue}
-use Rattle.decl_scope.specs.Scopes.{is_declared}
-use Rattle.decl_scope.specs.Binding.{bound_among, or_else}
+use Rattle.model_scopes.specs.Scopes.{is_declared}
+use Rattle.model_scopes.specs.Binding.{bound_among, or_else}
 use Rattle.decl_scope.specs.View.{scopes_of}
 use Rattle.decl_scope.proofs.ScopeLaws.{here_declared, look_declared, if_some}
 use Rattle.decl_scope.proofs.scopes.Scopes.find.Goals as goal

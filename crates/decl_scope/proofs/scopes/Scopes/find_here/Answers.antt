@@ -1,5 +1,5 @@
 use Rattle.std.proofs.Common.{◌≡◌, ◌∙◌, Some, ap, sym, subst, IsTrue}
-use Rattle.decl_scope.specs.Scopes.{is_declared}
+use Rattle.model_scopes.specs.Scopes.{is_declared}
 use Rattle.decl_scope.specs.View.{scopes_of}
 use Rattle.decl_scope.proofs.ScopeLaws.{here_declared, if_some}
 use Rattle.decl_scope.proofs.scopes.Scopes.find_here.Goals as goal

@@ -1,4 +1,4 @@
-use Rattle.decl_scope.specs.NotedUses.{used_at}
+use Rattle.model_scopes.specs.NotedUses.{used_at}
 use Rattle.decl_scope.specs.View.{scopes_of}
 use Rattle.decl_scope.proofs.ScopeLaws.{sound_changed}
 use Rattle.decl_scope.proofs.scopes.Scopes.note_use.Goals as goal

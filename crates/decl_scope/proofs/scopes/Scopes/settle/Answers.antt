@@ -1,7 +1,7 @@
 use Rattle.std.proofs.Common.{◌≡◌, ◌∙◌, Some, ap, sym, subst, IsTrue}
 use Rattle.model_types.specs.Structures.{knows}
-use Rattle.decl_scope.specs.Scopes.{with_id}
-use Rattle.decl_scope.specs.Declaring.{settled}
+use Rattle.model_scopes.specs.Scopes.{with_id}
+use Rattle.model_scopes.specs.Declaring.{settled}
 use Rattle.decl_scope.specs.Values.{value_if_any}
 use Rattle.decl_scope.specs.View.{scopes_of}
 use Rattle.decl_scope.proofs.ScopeLaws.{sound_changed}

@@ -1,5 +1,5 @@
 use Rattle.std.proofs.Common.{◌∙◌, ap, nat_eq, ◌++◌, ◌∷◌, []}
-use Rattle.decl_scope.specs.Scopes.{with_id}
+use Rattle.model_scopes.specs.Scopes.{with_id}
 use Rattle.decl_scope.proofs.BoundLaws.{insert-new}
 use Rattle.decl_scope.proofs.TableLaws.{lookup_id}
 use Rattle.decl_scope.proofs.table.Table.add.Goals as goal

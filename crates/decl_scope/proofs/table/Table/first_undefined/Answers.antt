@@ -1,5 +1,5 @@
 use Rattle.std.proofs.Common.{◌≡◌, ◌∙◌, ◌+◌, ◌-◌, ap, sym, arith, drop}
-use Rattle.decl_scope.specs.NotedUses.{first_undefined, first_of, unmet_use}
+use Rattle.model_scopes.specs.NotedUses.{first_undefined, first_of, unmet_use}
 use Rattle.decl_scope.proofs.TableLaws.{undefined_at}
 use Rattle.decl_scope.proofs.table.Table.first_undefined.Goals as goal
 

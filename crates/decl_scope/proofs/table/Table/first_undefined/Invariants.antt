@@ -1,5 +1,5 @@
 use Rattle.std.proofs.Common.{◌≡◌, ◌≤◌, length, drop}
-use Rattle.decl_scope.specs.NotedUses as u
+use Rattle.model_scopes.specs.NotedUses as u
 use Rattle.decl_scope.proofs.table.Table.first_undefined.Given as goal
 
 abbrev pub invariant-loop-at : goal.invariant-loop-at

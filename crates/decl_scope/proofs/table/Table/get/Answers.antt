@@ -1,5 +1,5 @@
 use Rattle.std.proofs.Common.{◌∙◌, ap}
-use Rattle.decl_scope.specs.Scopes.{with_id}
+use Rattle.model_scopes.specs.Scopes.{with_id}
 use Rattle.decl_scope.proofs.TableLaws.{lookup_id}
 use Rattle.decl_scope.proofs.table.Table.get.Goals as goal
 

@@ -1,6 +1,6 @@
 use Rattle.std.proofs.Common.{◌∙◌, ap, sym}
-use Rattle.decl_scope.specs.Scopes.{changed}
-use Rattle.decl_scope.specs.Declaring.{settled}
+use Rattle.model_scopes.specs.Scopes.{changed}
+use Rattle.model_scopes.specs.Declaring.{settled}
 use Rattle.decl_scope.specs.Values.{value_if_any}
 use Rattle.decl_scope.proofs.TableLaws.{changed_at, changed_none, none_by}
 use Rattle.decl_scope.proofs.table.Table.settle.Goals as goal

@@ -1,5 +1,5 @@
 use Rattle.std.proofs.Common.{◌∙◌, ap, sym}
-use Rattle.decl_scope.specs.Scopes.{changed}
+use Rattle.model_scopes.specs.Scopes.{changed}
 use Rattle.decl_scope.specs.Later.{taken}
 use Rattle.decl_scope.proofs.TableLaws.{changed_at, changed_none, none_by}
 use Rattle.decl_scope.proofs.table.Table.take.Goals as goal

@@ -4,18 +4,18 @@ use Rattle.std.specs.Prelude.{ℕ, Bool, true, false, ◌&&◌, ◌||◌, not, i
 use Rattle.cake_base.specs.declared.places.Place.{Place}
 use Rattle.cake_base.specs.declared.rules.Fault.{Fault}
 use Rattle.cake_base.specs.declared.rules.Family.TheVariants.{C}
-use Rattle.decl_scope.specs.declared.declarations.Kind.{Kind}
-use Rattle.decl_scope.specs.declared.declarations.Kind.TheVariants.{Object, Function, TypeName, Enumerator, Tag}
-use Rattle.decl_scope.specs.declared.declarations.Linkage.{Linkage}
-use Rattle.decl_scope.specs.declared.declarations.Linkage.TheVariants.{Absent, Internal, External}
+use Rattle.model_scopes.specs.declared.declarations.Kind.{Kind}
+use Rattle.model_scopes.specs.declared.declarations.Kind.TheVariants.{Object, Function, TypeName, Enumerator, Tag}
+use Rattle.model_scopes.specs.declared.declarations.Linkage.{Linkage}
+use Rattle.model_scopes.specs.declared.declarations.Linkage.TheVariants.{Absent, Internal, External}
 use Rattle.model_types.specs.Types as t
 use Rattle.model_types.specs.Types.{CType, form_of_type}
 use Rattle.model_types.specs.Compatible.{compatible, same_bool}
-use Rattle.decl_scope.specs.SameTypedefs.{same_typedef}
+use Rattle.model_scopes.specs.SameTypedefs.{same_typedef}
 use Rattle.model_core.specs.BuiltinTypes.{builtin_named, declared_type}
-use Rattle.decl_scope.specs.Declarations.{Declaration, is_tag, is_typedef, linkage_of, has_linkage}
-use Rattle.decl_scope.specs.Scopes.{Declared, Scopes}
-use Rattle.decl_scope.specs.Binding.{bound, here, declared_as}
+use Rattle.model_scopes.specs.Declarations.{Declaration, is_tag, is_typedef, linkage_of, has_linkage}
+use Rattle.model_scopes.specs.Scopes.{Declared, Scopes, is_defined}
+use Rattle.model_scopes.specs.Binding.{bound, here, declared_as}
 use Rattle.model_types.specs.Texts.{same_text}
 
 -- the id that a declaration shares with an earlier one: those of one name with linkage have one id, and
@@ -98,7 +98,7 @@ is_struct_form _ = false
 abbrev pub retags : Declaration → Option Declared → Bool
 retags d None = false
 retags d (Some old) =
-    is_tag d.kind && (not (same_bool (is_struct_form (form_of_type old.latest.ty)) (is_struct_form (form_of_type d.ty))) || (old.defined && d.defines))
+    is_tag d.kind && (not (same_bool (is_struct_form (form_of_type old.latest.ty)) (is_struct_form (form_of_type d.ty))) || (is_defined old && d.defines))
 
 -- ---- C07: a built-in function is defined, or is declared otherwise
 

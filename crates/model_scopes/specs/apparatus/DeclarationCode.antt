@@ -3,14 +3,14 @@ use Rattle.std.specs.Prelude.{◌≡◌, ℕ, ℤ, zero, suc, Bool, List, Option
 use Rattle.std.specs.Coded.{Coded, code_by, coded×, coded_ℕ, coded_ℤ, coded_bool, coded_list, coded_option}
 use Rattle.model_types.specs.declared.numbers.Basic.{Basic}
 use Rattle.cake_base.specs.declared.places.Place.{Place}
-use Rattle.decl_scope.specs.declared.declarations.Kind.{Kind}
-use Rattle.decl_scope.specs.declared.declarations.Kind.TheVariants as kind
-use Rattle.decl_scope.specs.declared.declarations.Linkage.{Linkage}
-use Rattle.decl_scope.specs.declared.declarations.Linkage.TheVariants as linkage
+use Rattle.model_scopes.specs.declared.declarations.Kind.{Kind}
+use Rattle.model_scopes.specs.declared.declarations.Kind.TheVariants as kind
+use Rattle.model_scopes.specs.declared.declarations.Linkage.{Linkage}
+use Rattle.model_scopes.specs.declared.declarations.Linkage.TheVariants as linkage
 use Rattle.model_types.specs.Types.{CType}
 use Rattle.model_types.specs.apparatus.TypesCode.{one_to_one, put_basic, get_basic, basic_back, coded_type, coded_place}
-use Rattle.decl_scope.specs.Declarations.{Value, Declaration}
-use Rattle.decl_scope.specs.Scopes.{Declared}
+use Rattle.model_scopes.specs.Declarations.{Value, Declaration}
+use Rattle.model_scopes.specs.Scopes.{Declared}
 
 abbrev put_kind : Kind → ℕ
 put_kind kind.Object = 0
@@ -70,8 +70,8 @@ coded_declaration =
 
 abbrev pub coded_declared : Coded Declared
 coded_declared =
-    code_by (Declaration × (Option CType × (Bool × (ℕ × Option Place))))
-    (coded× coded_declaration (coded× (coded_option coded_type) (coded× coded_bool (coded× coded_ℕ (coded_option coded_place)))))
-    (λ d. (d.latest, (d.before, (d.defined, (d.scope, d.used)))))
-    (λ p. record { latest = p.0; before = p.1.0; defined = p.1.1.0; scope = p.1.1.1.0; used = p.1.1.1.1 })
+    code_by (Declaration × (Option CType × (ℕ × (Place × (Option Place × (Option Place × Option Place))))))
+    (coded× coded_declaration (coded× (coded_option coded_type) (coded× coded_ℕ (coded× coded_place (coded× (coded_option coded_place) (coded× (coded_option coded_place) (coded_option coded_place)))))))
+    (λ d. (d.latest, (d.before, (d.scope, (d.first, (d.defining, (d.initialized, d.used)))))))
+    (λ p. record { latest = p.0; before = p.1.0; scope = p.1.1.0; first = p.1.1.1.0; defining = p.1.1.1.1.0; initialized = p.1.1.1.1.1.0; used = p.1.1.1.1.1.1 })
     (λ _. refl)

@@ -3,8 +3,8 @@ use Rattle.std.specs.Prelude.{ℕ, Bool, List, refl}
 use Rattle.std.specs.Coded.{Coded, code_by, coded×, coded_ℕ, coded_bool, coded_list}
 use Rattle.model_types.specs.Structures.{Structure}
 use Rattle.model_types.specs.apparatus.TypesCode.{coded_structure}
-use Rattle.decl_scope.specs.Scopes.{Declared, Level, Scopes}
-use Rattle.decl_scope.specs.apparatus.DeclarationCode.{coded_declared}
+use Rattle.model_scopes.specs.Scopes.{Declared, Level, Scopes}
+use Rattle.model_scopes.specs.apparatus.DeclarationCode.{coded_declared}
 
 abbrev coded_names : Coded (List (List ℕ × ℕ))
 coded_names = coded_list (coded× (coded_list coded_ℕ) coded_ℕ)

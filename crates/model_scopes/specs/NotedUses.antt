@@ -2,12 +2,12 @@
 use Rattle.std.specs.Prelude.{ℕ, nat_lt, Bool, true, false, ◌&&◌, not, if◌then◌else◌, List, [], ◌∷◌, Option, Some, None, option_map}
 use Rattle.cake_base.specs.declared.places.Place.{Place}
 use Rattle.cake_base.specs.declared.rules.Fault.{Fault}
-use Rattle.decl_scope.specs.declared.declarations.Kind.{Kind}
-use Rattle.decl_scope.specs.declared.declarations.Kind.TheVariants.{Object, Function, TypeName, Enumerator, Tag}
-use Rattle.decl_scope.specs.declared.declarations.Linkage.{Linkage}
-use Rattle.decl_scope.specs.declared.declarations.Linkage.TheVariants.{Absent, Internal, External}
-use Rattle.decl_scope.specs.Scopes.{Declared, Scopes, changed}
-use Rattle.decl_scope.specs.DeclarationRules.{constraint_at}
+use Rattle.model_scopes.specs.declared.declarations.Kind.{Kind}
+use Rattle.model_scopes.specs.declared.declarations.Kind.TheVariants.{Object, Function, TypeName, Enumerator, Tag}
+use Rattle.model_scopes.specs.declared.declarations.Linkage.{Linkage}
+use Rattle.model_scopes.specs.declared.declarations.Linkage.TheVariants.{Absent, Internal, External}
+use Rattle.model_scopes.specs.Scopes.{Declared, Scopes, changed, is_defined}
+use Rattle.model_scopes.specs.DeclarationRules.{constraint_at}
 
 -- of two places the one that comes before the other, or the former
 abbrev pub first_place : Place → Place → Place
@@ -39,7 +39,7 @@ is_internal External = false
 
 -- an internal function that no declaration defines
 abbrev pub is_undefined : Declared → Bool
-is_undefined d = is_function_kind d.latest.kind && is_internal d.latest.linkage && not d.defined
+is_undefined d = is_function_kind d.latest.kind && is_internal d.latest.linkage && not (is_defined d)
 
 -- the use that needs a definition that isn't there
 abbrev pub unmet_use : Declared → Option Place

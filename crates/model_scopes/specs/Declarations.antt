@@ -2,10 +2,10 @@
 use Rattle.std.specs.Prelude.{ℕ, ℤ, Bool, true, false, ◌&&◌, ◌||◌, not, List, Option, Some, None, is_some}
 use Rattle.cake_base.specs.declared.places.Place.{Place}
 use Rattle.model_types.specs.declared.numbers.Basic.{Basic}
-use Rattle.decl_scope.specs.declared.declarations.Kind.{Kind}
-use Rattle.decl_scope.specs.declared.declarations.Kind.TheVariants.{Object, Function, TypeName, Enumerator, Tag}
-use Rattle.decl_scope.specs.declared.declarations.Linkage.{Linkage}
-use Rattle.decl_scope.specs.declared.declarations.Linkage.TheVariants.{Absent, Internal, External}
+use Rattle.model_scopes.specs.declared.declarations.Kind.{Kind}
+use Rattle.model_scopes.specs.declared.declarations.Kind.TheVariants.{Object, Function, TypeName, Enumerator, Tag}
+use Rattle.model_scopes.specs.declared.declarations.Linkage.{Linkage}
+use Rattle.model_scopes.specs.declared.declarations.Linkage.TheVariants.{Absent, Internal, External}
 use Rattle.model_types.specs.Types as t
 use Rattle.model_types.specs.Types.{CType, form_of_type}
 use Rattle.model_core.specs.CoreTypes.{basic_of, is_pointer}

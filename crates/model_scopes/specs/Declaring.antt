@@ -1,12 +1,13 @@
 -- The scopes after a declaration (ISO/IEC 9899:2024, 6.2.1, 6.2.2, 6.2.7).
-use Rattle.std.specs.Prelude.{ℕ, ◌+◌, Bool, true, false, ◌||◌, if◌then◌else◌, List, [], ◌∷◌, ◌++◌, Option, Some, None}
-use Rattle.decl_scope.specs.declared.declarations.Kind.{Kind}
+use Rattle.std.specs.Prelude.{ℕ, ◌+◌, Bool, true, false, if◌then◌else◌, List, [], ◌∷◌, ◌++◌, Option, Some, None}
+use Rattle.model_scopes.specs.declared.declarations.Kind.{Kind}
+use Rattle.cake_base.specs.declared.places.Place.{Place}
 use Rattle.model_types.specs.Types.{CType}
-use Rattle.decl_scope.specs.CompositeTypes.{composite, with_length}
-use Rattle.decl_scope.specs.Declarations.{Value, Declaration, is_tag, has_linkage}
-use Rattle.decl_scope.specs.Scopes.{Declared, Level, Scopes, changed}
-use Rattle.decl_scope.specs.Binding.{bound_in}
-use Rattle.decl_scope.specs.DeclarationRules.{shared_id}
+use Rattle.model_scopes.specs.CompositeTypes.{composite, with_length}
+use Rattle.model_scopes.specs.Declarations.{Value, Declaration, is_tag, has_linkage}
+use Rattle.model_scopes.specs.Scopes.{Declared, Level, Scopes, changed}
+use Rattle.model_scopes.specs.Binding.{bound_in}
+use Rattle.model_scopes.specs.DeclarationRules.{shared_id}
 
 -- a scope with one more name
 abbrev pub with_name : (tag : Bool) → List ℕ → (id : ℕ) → Level → Level
@@ -23,8 +24,20 @@ naming tag name id l = with_name_if_new (bound_in tag name l) tag name id l
 
 -- ---- the first declaration of an id
 
+-- the place of a definition
+abbrev pub defined_at : Declaration → Option Place
+defined_at d = if d.defines then Some d.place else None
+
 abbrev pub first_declared : Declaration → (scope : ℕ) → Declared
-first_declared d scope = record { latest = d; before = None; defined = d.defines; scope = scope; used = None }
+first_declared d scope = record {
+  latest = d;
+  before = None;
+  scope = scope;
+  first = d.place;
+  defining = defined_at d;
+  initialized = None;
+  used = None;
+}
 
 abbrev pub with_linked : Bool → List ℕ → (id : ℕ) → List (List ℕ × ℕ) → List (List ℕ × ℕ)
 with_linked true name id linked = linked ++ (name, id) ∷ []
@@ -52,12 +65,19 @@ abbrev pub types_before : Bool → Declared → Option CType
 types_before true old = Some (joined old.before old.latest.ty)
 types_before false old = old.before
 
+-- of two places, where there are any, the former
+abbrev pub or_place : Option Place → Option Place → Option Place
+or_place (Some place) other = Some place
+or_place None other = other
+
 abbrev pub redeclared : Declaration → (scope : ℕ) → Declared → Declared
 redeclared d scope old = record {
   latest = record d { ty = kept_type d.kind old.latest.ty d.ty };
   before = types_before (has_linkage d) old;
-  defined = old.defined || d.defines;
   scope = scope;
+  first = old.first;
+  defining = or_place old.defining (defined_at d);
+  initialized = old.initialized;
   used = old.used;
 }
 
@@ -92,3 +112,20 @@ settled ty value old = record old { latest = record old.latest { ty = ty; value 
 
 abbrev pub settle : (id : ℕ) → CType → Option Value → Scopes → Scopes
 settle id ty value s = record s { declared = changed (settled ty value) id s.declared }
+
+-- with the place of the name in the declaration that has its initializer or body
+abbrev pub initialized_at : Place → Declared → Declared
+initialized_at place old = record old { initialized = or_place old.initialized (Some place) }
+
+abbrev pub note_initialized : (id : ℕ) → Place → Scopes → Scopes
+note_initialized id place s = record s { declared = changed (initialized_at place) id s.declared }
+
+-- ---- the place that counts for an external name where units are joined
+
+abbrev pub place_or : Option Place → Place → Place
+place_or (Some place) other = place
+place_or None other = other
+
+-- that of its definition, else of the first tentative one, else of its first declaration
+abbrev pub joint_place : Declared → Place
+joint_place d = place_or d.initialized (place_or d.defining d.first)

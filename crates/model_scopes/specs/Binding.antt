@@ -1,10 +1,10 @@
 -- The declaration to which a name is bound (ISO/IEC 9899:2024, 6.2.1, 6.2.3), and the linkage that it
 -- gives to a later one (6.2.2).
 use Rattle.std.specs.Prelude.{ℕ, Bool, true, false, nat_lt, if◌then◌else◌, List, [], ◌∷◌, Option, Some, None}
-use Rattle.decl_scope.specs.declared.declarations.Linkage.{Linkage}
-use Rattle.decl_scope.specs.declared.declarations.Linkage.TheVariants.{Absent, Internal, External}
-use Rattle.decl_scope.specs.Declarations.{linkage_of}
-use Rattle.decl_scope.specs.Scopes.{Declared, Level, Scopes, with_id}
+use Rattle.model_scopes.specs.declared.declarations.Linkage.{Linkage}
+use Rattle.model_scopes.specs.declared.declarations.Linkage.TheVariants.{Absent, Internal, External}
+use Rattle.model_scopes.specs.Declarations.{linkage_of}
+use Rattle.model_scopes.specs.Scopes.{Declared, Level, Scopes, with_id}
 use Rattle.model_types.specs.Texts.{same_text}
 
 -- the id of a name

@@ -3,16 +3,19 @@ use Rattle.std.specs.Prelude.{ℕ, ◌+◌, nat_eq, Bool, true, false, if◌then
 use Rattle.cake_base.specs.declared.places.Place.{Place}
 use Rattle.model_types.specs.Types.{CType}
 use Rattle.model_types.specs.Structures.{Member, Structure, completed}
-use Rattle.decl_scope.specs.Declarations.{Declaration}
+use Rattle.model_scopes.specs.Declarations.{Declaration}
 
 -- what has an id: its latest declaration; the composite type of those before it, where there are any
--- and it has linkage; whether one of them defines it; the number of the scope of the latest one; and
--- the first of its noted uses in place order
+-- and it has linkage; the number of the scope of the latest one; the places of the name in its first
+-- declaration, in the first that defines it (a tentative definition of an object counts) and in the one with its
+-- initializer or body; and the first of its noted uses in place order
 pub record Declared : Type 0 where
   pub latest : Declaration
   pub before : Option CType
-  pub defined : Bool
   pub scope : ℕ
+  pub first : Place
+  pub defining : Option Place
+  pub initialized : Option Place
   pub used : Option Place
 
 -- a scope: its number, whether it is that of the parameters of a function literal, and the ids of the
@@ -73,6 +76,10 @@ changed f id (e ∷ es) = if nat_eq id e.0 then (e.0, f e.1) ∷ es else e ∷ c
 -- one more id, without a name
 abbrev pub drawn : Scopes → Scopes
 drawn s = record s { ids = s.ids + 1 }
+
+-- a declaration of the id defines it, or has the braces of a tag
+abbrev pub is_defined : Declared → Bool
+is_defined d = is_some d.defining
 
 -- ---- structures
 

@@ -1,0 +1,104 @@
+-- What checking knows at a point of a unit, and what it has made so far (ISO/IEC 9899:2024, 6.2.1, 6.2.4, 6.5.3.6).
+use Rattle.std.specs.Prelude.{ℕ, ◌+◌, Bool, List, [], ◌∷◌, ◌++◌, Option, Some, None, Result, Ok, Err}
+use Rattle.cake_base.specs.declared.places.Place.{Place}
+use Rattle.cake_base.specs.declared.rules.Fault.{Fault}
+use Rattle.model_types.specs.Types.{CType}
+use Rattle.model_scopes.specs.Declarations.{Declaration}
+use Rattle.model_scopes.specs.Scopes.{Scopes, file_scope}
+use Rattle.model_scopes.specs.DeclarationRules.{constraint_at}
+use Rattle.model_grammar.specs.SyntaxForms as syntax
+use Rattle.model_core.specs.Core as unit
+
+-- whether a part is evaluated, or stands in `sizeof`, `alignof` or `typeof`
+pub data Use : Type 0 where
+  Evaluated : Use
+  Unevaluated : Use
+
+-- a function literal whose body waits for the end of its full expression, with the id of its function, its type, and
+-- what is declared in the scope of its parameters
+pub record Waiting : Type 0 where
+  pub id : ℕ
+  pub literal : syntax.Expr
+  pub type : CType
+  pub parameters : List Declaration
+
+-- the object of a string, with its bytes, or of a compound literal; and of a compound literal at file scope, whose
+-- storage is static, its values
+pub record Made : Type 0 where
+  pub id : ℕ
+  pub type : CType
+  pub place : Place
+  pub text : Option (List ℕ)
+  pub values : Option unit.Initials
+  pub is_evaluated : Bool
+
+-- the body of a function that is defined, with the ids of its parameters; of a function literal also the place of its `(`
+pub record Body : Type 0 where
+  pub id : ℕ
+  pub literal : Option Place
+  pub type : CType
+  pub parameters : List ℕ
+  pub body : unit.Stat
+
+-- the scopes; the function literals that wait, and the objects that strings and compound literals made, in the order of
+-- the source; the automatic objects of the innermost block so far; the objects whose address was taken by a written `&`
+-- in a part that is evaluated; the types that are named, with their places; the values of objects of static storage, by
+-- their ids; the bodies of functions; and the first object whose values are too many
+pub record State : Type 0 where
+  pub scopes : Scopes
+  pub waiting : List Waiting
+  pub made : List Made
+  pub automatic : List ℕ
+  pub taken : List ℕ
+  pub named : List (Place × CType)
+  pub values : List (ℕ × unit.Initials)
+  pub bodies : List Body
+  pub limit : Option Place
+
+-- what a part is, with the state behind it
+pub record Both (A : Type 0) : Type 0 where
+  pub made : A
+  pub state : State
+
+-- what a part is, or its first fault
+abbrev pub Answer : Type 0 → Type 0
+Answer A = Result (Both A) Fault
+
+abbrev pub gives : {A : Type 0} → A → State → Answer A
+gives x s = Ok (record { made = x; state = s })
+
+abbrev pub breaks : {A : Type 0} → (place : Place) → (rule : ℕ) → Result A Fault
+breaks place rule = Err (constraint_at place rule)
+
+-- one part and then another
+abbrev pub then_do : {A B : Type 0} → Answer A → (A → State → Answer B) → Answer B
+then_do (Ok both) go = go both.made both.state
+then_do (Err fault) go = Err fault
+
+-- a fault, where there is one, before what comes behind
+abbrev pub unless : {A : Type 0} → Option Fault → Result A Fault → Result A Fault
+unless None behind = behind
+unless (Some fault) behind = Err fault
+
+-- what the rules make of plain values, in a state that they leave alone
+abbrev pub with_state : {A : Type 0} → Result A Fault → State → Answer A
+with_state (Ok x) s = gives x s
+with_state (Err fault) s = Err fault
+
+-- before the first declaration of a unit
+abbrev pub start : Scopes → State
+start scopes = record {
+  scopes = scopes;
+  waiting = [];
+  made = [];
+  automatic = [];
+  taken = [];
+  named = [];
+  values = [];
+  bodies = [];
+  limit = None;
+}
+
+-- the state with other scopes
+abbrev pub in_scopes : Scopes → State → State
+in_scopes scopes s = record s { scopes = scopes }

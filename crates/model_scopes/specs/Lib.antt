@@ -1,0 +1,9 @@
+pub mod Declarations
+pub mod Scopes
+pub mod Binding
+pub mod CompositeTypes
+pub mod SameTypedefs
+pub mod DeclarationRules
+pub mod Declaring
+pub mod NotedUses
+pub mod apparatus
