@@ -1,10 +1,6 @@
 pub mod DeclaratorLists
 pub mod EnumeratorLists
 pub mod InitDeclaratorLists
-pub mod InitializerLists
 pub mod MemberLists
-pub mod ParameterLists
-pub mod PointerLists
-pub mod Refusals
 pub mod SpecLists
-pub mod SuffixLists
+pub mod Refusals

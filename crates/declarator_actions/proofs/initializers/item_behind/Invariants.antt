@@ -2,7 +2,7 @@ use Rattle.std.specs.Prelude.{◌≡◌, length}
 use Rattle.model_grammar.specs.SyntaxStatementActions as s
 use Rattle.c_tree.specs.SyntaxViews.{designators_of}
 use Rattle.syntax_meanings.specs.Meanings.{symbols_seen}
-use Rattle.declaration_actions.proofs.initializers.item_behind.Given as goal
+use Rattle.declarator_actions.proofs.initializers.item_behind.Given as goal
 
 abbrev pub invariant-loop-symbol : goal.invariant-loop-symbol
 invariant-loop-symbol l = s.item_behind (designators_of l.designators) (symbols_seen l.symbols) ≡ s.item_behind (designators_of l.designators) (symbols_seen l.initial.symbols)

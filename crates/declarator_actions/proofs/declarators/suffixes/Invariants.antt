@@ -1,8 +1,8 @@
 use Rattle.std.proofs.Common.{◌≡◌, length}
 use Rattle.model_grammar.specs.SyntaxDeclarationActions as d
-use Rattle.declaration_actions.proofs.SuffixLists.{before}
+use Rattle.declarator_actions.proofs.SuffixLists.{before}
 use Rattle.syntax_meanings.specs.Meanings.{symbols_seen}
-use Rattle.declaration_actions.proofs.declarators.suffixes.Given as goal
+use Rattle.declarator_actions.proofs.declarators.suffixes.Given as goal
 
 abbrev pub invariant-loop-symbol : goal.invariant-loop-symbol
 invariant-loop-symbol l = before l.suffixes (d.suffixes_in (symbols_seen l.symbols)) ≡ d.suffixes_in (symbols_seen l.initial.symbols)

@@ -3,7 +3,7 @@ ghost use Rattle.std.specs.Prelude.{◌≡◌, ◌≤◌, [], length, IfOk};
 ghost use Rattle.model_grammar.specs.SyntaxDeclarationActions as d;
 ghost use Rattle.model_grammar.specs.SyntaxForms as m;
 ghost use Rattle.c_tree.specs.SyntaxViews.{declarator_of};
-ghost use Rattle.declaration_actions.specs.Found.{found_or};
+ghost use Rattle.declarator_actions.specs.Found.{found_or};
 ghost use Rattle.syntax_meanings.specs.Meanings.{symbols_seen};
 
 use c_tree::DeclaratorForm;

@@ -1,0 +1,5 @@
+pub mod ParameterLists
+pub mod PointerLists
+pub mod SuffixLists
+pub mod InitializerLists
+pub mod Refusals
