@@ -1,7 +1,6 @@
 pub mod BoundLaws
 pub mod TableLaws
-pub mod ParameterLaws
+pub mod PassedLists
 pub mod SoundLaws
 pub mod ScopeLaws
-pub mod CompositeLaws
 pub mod UseLaws

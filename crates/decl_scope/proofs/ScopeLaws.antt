@@ -11,11 +11,10 @@ use Rattle.model_types.specs.Structures.{Member, Structure, completed, names_bel
 use Rattle.model_scopes.specs.CompositeTypes.{with_length}
 use Rattle.model_scopes.specs.Declarations.{Value, Declaration, fits, fits_kind, has_linkage, is_tag, linkage_by, is_present}
 use Rattle.model_scopes.specs.Scopes as m
-use Rattle.model_scopes.specs.Scopes.{Declared, Level, Scopes, with_id, is_declared, changed, with_struct, with_members, enter, leave, drawn}
+use Rattle.model_scopes.specs.Scopes.{Declared, Level, Scopes, with_id, is_declared, changed, leave_to, leave}
 use Rattle.model_scopes.specs.Binding.{bound, here, look}
 use Rattle.model_scopes.specs.DeclarationRules.{shared_id, shared_by, linked_id}
-use Rattle.model_scopes.specs.Declaring.{naming, with_linked, first_declared, declare_first, declare_again, redeclared, kept_type, types_before, settled, settle}
-use Rattle.model_scopes.specs.NotedUses.{used_at, note_use}
+use Rattle.model_scopes.specs.Declaring.{naming, with_linked, first_declared, declare_first, declare_again, redeclared, kept_type, types_before, or_place, defined_at}
 use Rattle.c_types.proofs.Growth.{length_completed}
 use Rattle.decl_scope.specs.Later.{taken}
 use Rattle.decl_scope.specs.Soundness.{AreDeclared, LevelsDeclared, AreBelow, AreFit, IsSound}
@@ -92,6 +91,31 @@ pub first_scopes : (s : Scopes) (d : Declaration) (l : Level) (ns : List (List �
     → declare_first d s ≡ record s { innermost = l; linked = ns; declared = t; ids = s.ids + 1 }
 first_scopes s d l ns t p q r = sym (λ i. record s { innermost = p i; linked = q i; declared = r i; ids = s.ids + 1 })
 
+-- ---- behind the innermost scope
+
+sound_left_to : (s : Scopes) (around : List Level) → s.around ≡ around → IsSound s → IsSound (leave_to around s)
+sound_left_to s [] e h = h
+sound_left_to s (l ∷ ls) e h = record { levels = subst (LevelsDeclared s.declared) e h.levels.2; linked = h.linked; below = h.below; fit = h.fit }
+
+pub sound_left : (s : Scopes) → IsSound s → IsSound (leave s)
+sound_left s h = sound_left_to s s.around refl h
+
+abbrev Inner : List Level → Level → List Level → Type 0
+Inner around l ls = (level : Level) (rest : List Level) → around ≡ level ∷ rest → (l ≡ level) × (ls ≡ rest)
+
+left_to : (s : Scopes) (around : List Level) (l : Level) (ls : List Level) → s.around ≡ around → Inner around l ls
+    → (around ≡ [] → (l ≡ s.innermost) × (ls ≡ [])) → leave_to around s ≡ record s { innermost = l; around = ls }
+left_to s [] l ls e inner outermost =
+    let same = outermost refl in
+    λ i. record s { innermost = sym same.0 i; around = (e ∙ sym same.1) i }
+left_to s (x ∷ xs) l ls e inner outermost =
+    let same = inner x xs refl in
+    λ i. record s { innermost = sym same.0 i; around = sym same.1 i }
+
+pub left_scopes : (s : Scopes) (l : Level) (ls : List Level) → Inner s.around l ls → (s.around ≡ [] → (l ≡ s.innermost) × (ls ≡ []))
+    → leave s ≡ record s { innermost = l; around = ls }
+left_scopes s l ls inner outermost = left_to s s.around l ls refl inner outermost
+
 -- ---- a later declaration
 
 kept_fits : (kind : Kind) (v : Option Value) (old new : CType) → fits_kind kind (form_of_type (with_length old new)) v ≡ fits_kind kind (form_of_type new) v
@@ -152,7 +176,15 @@ taken_again d ty before scope id es None e h =
 taken_again d ty before scope id es (Some old) e h =
     let k = h old refl in
     changed_same (taken (record d { ty = ty }) before scope) (redeclared d scope) id es old (sym e)
-    (λ i. record { latest = record d { ty = k.0 i }; before = k.1 i; defined = old.defined || d.defines; scope = scope; used = old.used })
+    (λ i. record {
+      latest = record d { ty = k.0 i };
+      before = k.1 i;
+      scope = scope;
+      first = old.first;
+      defining = or_place old.defining (defined_at d);
+      initialized = old.initialized;
+      used = old.used;
+    })
 
 -- ---- structures
 

@@ -1,11 +1,11 @@
 -- What is declared, by its id, as the entries of a map.
-use Rattle.std.proofs.Common.{◌≡◌, ℕ, zero, suc, ◌+◌, ◌-◌, ◌<◌, Bool, true, false, nat_eq, nat_lt, List, [], ◌∷◌, ◌++◌, length, drop, drop-cons, add-one, get_or, Option, Some, None, refl, ap, sym, ◌∙◌, cond, not, arith, slice_get}
+use Rattle.std.proofs.Common.{◌≡◌, ℕ, zero, suc, ◌+◌, ◌-◌, ◌<◌, Bool, true, false, nat_eq, nat_lt, List, [], ◌∷◌, ◌++◌, length, drop, drop-cons, add-one, get_or, Option, Some, None, refl, ap, sym, subst, ◌∙◌, cond, not, arith, slice_get, IsTrue}
 use Rattle.std.specs.List.{position, position_or_len}
 use Rattle.std.specs.Option.{option_map, is_some}
 use Rattle.std.specs.Map.{keys_of, values_of, lookup as lookup_by}
 use Rattle.indexmap.specs.IndexMap.{set_value_at}
 use Rattle.cake_base.specs.declared.places.Place.{Place}
-use Rattle.model_scopes.specs.Scopes.{Declared, with_id, changed}
+use Rattle.model_scopes.specs.Scopes.{Declared, with_id, is_declared, changed}
 use Rattle.model_scopes.specs.NotedUses.{first_undefined, first_of, unmet_use}
 
 less_next : (a b : ℕ) → nat_lt (suc a) (suc b) ≡ nat_lt a b
@@ -28,6 +28,18 @@ later_some (Some j) i h = (j, cc, refl)
 pub lookup_id : (id : ℕ) (es : List (ℕ × Declared)) → lookup_by (nat_eq id) es ≡ with_id id es
 lookup_id id [] = refl
 lookup_id id (e ∷ es) = ap (λ o. cond (nat_eq id e.0) (Some e.1) o) (lookup_id id es)
+
+-- what stands in a rank is what its id has
+pub same_at : (es seen : List (ℕ × Declared)) (rank id : ℕ) (d : Declared) → es ≡ seen → Some (id, d) ≡ slice_get es rank → lookup_by (nat_eq id) es ≡ Some d
+    → (e : ℕ × Declared) → slice_get seen rank ≡ Some e → with_id e.0 seen ≡ Some e.1
+same_at es seen rank id d view at found e h =
+    let same : Some (id, d) ≡ Some e = at ∙ ap (λ (xs : List (ℕ × Declared)). slice_get xs rank) view ∙ h in
+    let entry : (id, d) ≡ e = cc in
+    subst (λ (x : ℕ × Declared). with_id x.0 seen ≡ Some x.1) entry (ap (with_id id) (sym view) ∙ sym (lookup_id id es) ∙ found)
+
+pub declared_at : (es : List (ℕ × Declared)) (rank id : ℕ) (d : Declared) → Some (id, d) ≡ slice_get es rank
+    → ((e : ℕ × Declared) → slice_get es rank ≡ Some e → with_id e.0 es ≡ Some e.1) → IsTrue (is_declared id es)
+declared_at es rank id d at same = ap is_some (same (id, d) (sym at))
 
 -- a write at the place of an id
 pub changed_at : (f : Declared → Declared) (id : ℕ) (es : List (ℕ × Declared)) (i : ℕ) (d w : Declared) → position (nat_eq id) (keys_of es) ≡ Some i

@@ -1,5 +1,4 @@
 pub mod Values
-pub mod Parameters
 pub mod Later
 pub mod Soundness
 pub mod View

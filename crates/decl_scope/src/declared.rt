@@ -1,5 +1,5 @@
 //! What has an id.
-ghost use Rattle.std.specs.Prelude.{◌≡◌};
+ghost use Rattle.std.specs.Prelude.{◌≡◌, is_some};
 ghost use Rattle.std.specs.Option.{option_copied};
 ghost use Rattle.model_scopes.specs.Scopes as m;
 ghost use Rattle.model_scopes.specs.Declaring as d;
@@ -18,8 +18,10 @@ use std::marker::Model;
 pub struct Declared {
     latest: Entry,
     before: Option<CType>,
-    defined: bool,
     scope: u64,
+    first: Place,
+    defining: Option<Place>,
+    initialized: Option<Place>,
     used: Option<Place>,
 }
 
@@ -31,7 +33,7 @@ impl Model for Declared {
 
     ghost coded = { coded_declared };
 
-    ghost view = { λ d. record { latest = d.latest; before = d.before; defined = d.defined; scope = d.scope; used = d.used } };
+    ghost view = { λ d. record { latest = d.latest; before = d.before; scope = d.scope; first = d.first; defining = d.defining; initialized = d.initialized; used = d.used } };
 }
 
 /// Of two places the one that comes before the other, or the first.
@@ -52,17 +54,40 @@ pub fn first_of(p: Option<Place>, q: Option<Place>) -> Option<Place>
     }
 }
 
+/// Of two places, where there are any, the former.
+fn or_place(p: Option<Place>, q: Option<Place>) -> Option<Place>
+    ensures { result ≡ d.or_place p q }
+{
+    match p {
+        Some(place) => Some(place),
+        None => q,
+    }
+}
+
+/// A place, or the other where there is none.
+fn place_or(p: Option<Place>, other: Place) -> Place
+    ensures { result ≡ d.place_or p other }
+{
+    match p {
+        Some(place) => place,
+        None => other,
+    }
+}
+
 impl Declared {
     /// What its first declaration, in the scope of that number, declares.
     pub fn new(entry: Entry, scope: u64) -> Declared
         ensures { result ≡ d.first_declared entry scope }
     {
-        let defined = entry.defines;
+        let first = entry.place;
+        let defining = entry.defined_at();
         Declared {
             latest: entry,
             before: None,
-            defined,
             scope,
+            first,
+            defining,
+            initialized: None,
             used: None,
         }
     }
@@ -83,9 +108,24 @@ impl Declared {
 
     /// Whether one of the declarations defines it.
     pub fn is_defined(&self) -> bool
-        ensures { result ≡ self.now.defined }
+        ensures { result ≡ m.is_defined self.now }
     {
-        self.defined
+        self.defining.is_some()
+    }
+
+    /// Whether one of the declarations has its initializer or body.
+    pub fn is_initialized(&self) -> bool
+        ensures { result ≡ is_some self.now.initialized }
+    {
+        self.initialized.is_some()
+    }
+
+    /// The place of the name in the definition, else in the first tentative one, else in the first
+    /// declaration.
+    pub fn joint_place(&self) -> Place
+        ensures { result ≡ d.joint_place self.now }
+    {
+        place_or(self.initialized, place_or(self.defining, self.first))
     }
 
     /// The number of the scope of the latest declaration.
@@ -99,7 +139,7 @@ impl Declared {
     pub fn take(&mut self, entry: Entry, before: Option<CType>, scope: u64)
         ensures { self.new ≡ taken entry before scope self.old }
     {
-        self.defined = self.defined || entry.defines;
+        self.defining = or_place(self.defining, entry.defined_at());
         self.before = before;
         self.scope = scope;
         self.latest = entry;
@@ -113,6 +153,13 @@ impl Declared {
         self.latest.value = value;
     }
 
+    /// Notes the place of the name in the declaration that has its initializer or body. The first is kept.
+    pub fn note_initialized(&mut self, place: Place)
+        ensures { self.new ≡ d.initialized_at place self.old }
+    {
+        self.initialized = or_place(self.initialized, Some(place));
+    }
+
     /// Notes a use. The first in place order is kept.
     pub fn note(&mut self, place: Place)
         ensures { self.new ≡ u.used_at place self.old }
@@ -124,7 +171,7 @@ impl Declared {
     pub fn unmet_use(&self) -> Option<Place>
         ensures { result ≡ u.unmet_use self.now }
     {
-        if self.latest.is_internal_function() && !self.defined {
+        if self.latest.is_internal_function() && !self.is_defined() {
             self.used
         } else {
             None

@@ -1,12 +1,14 @@
 //! A declaration of a name.
-ghost use Rattle.std.specs.Prelude.{◌≡◌, ◌&&◌};
+ghost use Rattle.std.specs.Prelude.{◌≡◌, ◌&&◌, IfOk};
 ghost use Rattle.model_scopes.specs.Declarations as m;
+ghost use Rattle.model_scopes.specs.Declaring as j;
 ghost use Rattle.model_scopes.specs.NotedUses as u;
 
-use model_scopes::declarations::{Kind, Linkage};
 use c_types::CType;
-use cake_base::{Bytes, Place};
+use cake_base::{Bytes, NoMemory, Place};
+use model_scopes::declarations::{Kind, Linkage};
 use model_types::numbers::Const;
+use std::alloc::Global;
 use std::marker::Model;
 
 /// A declaration of a name (ISO/IEC 9899:2024, 6.7). Contracts see the record of what it says.
@@ -65,6 +67,29 @@ fn is_present(linkage: Linkage) -> bool
 }
 
 impl Entry {
+    /// An equal declaration.
+    pub fn copy(&self, alloc: Global) -> Result<Entry, NoMemory>
+        ensures { IfOk result (λ made. made ≡ self.now) }
+    {
+        Ok(Entry {
+            name: Bytes::of(alloc, self.name.as_slice())?,
+            kind: self.kind,
+            linkage: self.linkage,
+            ty: self.ty.copy(alloc)?,
+            value: self.value,
+            defines: self.defines,
+            automatic: self.automatic,
+            place: self.place,
+        })
+    }
+
+    /// The place of the name, where the declaration is a definition.
+    pub fn defined_at(&self) -> Option<Place>
+        ensures { result ≡ j.defined_at self.now }
+    {
+        if self.defines { Some(self.place) } else { None }
+    }
+
     /// The linkage: only objects and functions have one.
     pub fn own_linkage(&self) -> Linkage
         ensures { result ≡ m.linkage_of self.now }

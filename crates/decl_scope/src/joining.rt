@@ -8,7 +8,6 @@ ghost use Rattle.model_scopes.specs.Declaring as j;
 ghost use Rattle.model_scopes.specs.Binding as b;
 ghost use Rattle.decl_scope.specs.Later.{taken};
 
-use crate::composites::{composite, with_length};
 use crate::declared::Declared;
 use crate::entry::Entry;
 use crate::level::Level;
@@ -16,6 +15,7 @@ use crate::names::Names;
 use crate::table::Table;
 use c_types::CType;
 use cake_base::NoMemory;
+use check_types::{composite, with_length};
 use std::alloc::Global;
 
 /// A copy of a text.

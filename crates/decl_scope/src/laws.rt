@@ -1,18 +1,9 @@
 //! Laws of the definitions: each function does nothing, and its contract is the law.
-ghost use Rattle.std.specs.Prelude.{◌≡◌, ℕ, ◌≤◌, true, ◌&&◌, Some, slice_get};
+ghost use Rattle.std.specs.Prelude.{◌≡◌, ℕ, ◌≤◌, Some, slice_get};
 ghost use Rattle.cake_base.specs.declared.places.Place.{Place};
 ghost use Rattle.cake_base.specs.declared.rules.Fault.{Fault};
-ghost use Rattle.model_types.specs.Types.{CType};
-ghost use Rattle.model_types.specs.Compatible.{compatible};
-ghost use Rattle.model_scopes.specs.CompositeTypes.{composite};
 ghost use Rattle.model_scopes.specs.Scopes.{Declared, Scopes};
 ghost use Rattle.model_scopes.specs.NotedUses.{unmet_use, unresolved};
-
-/// A type is compatible with the composite type of two compatible types exactly where it is
-/// compatible with both. So a redeclaration is compared with all declarations before it.
-pub fn composite_stands_for_both()
-    ensures { (t u v : CType) → compatible t u ≡ true → compatible (composite t u) v ≡ (compatible t v && compatible u v) }
-{}
 
 /// What `unresolved` names is a use that needs a definition, and none comes before it.
 pub fn unresolved_is_first()

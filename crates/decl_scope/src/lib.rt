@@ -3,7 +3,6 @@
 
 mod around;
 mod built_ins;
-mod composites;
 mod declared;
 mod entry;
 mod errors;

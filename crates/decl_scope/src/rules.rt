@@ -5,12 +5,12 @@ ghost use Rattle.model_types.specs.Types.{form_of_type};
 ghost use Rattle.model_scopes.specs.DeclarationRules as m;
 
 use crate::built_ins::built_in_type;
-use model_scopes::declarations::{Kind, Linkage};
 use crate::declared::Declared;
 use crate::entry::Entry;
 use crate::typedefs::same_typedef;
 use c_types::{CType, Structs, TypeForm, compatible};
 use cake_base::{Family, Fault, NoMemory, Place, Rule};
+use model_scopes::declarations::{Kind, Linkage};
 use std::alloc::Global;
 
 /// The name begins with `cake_`.

@@ -1,5 +1,5 @@
 //! The scopes at a point of a unit.
-ghost use Rattle.std.specs.Prelude.{◌≡◌, ◌<◌, List, ◌∷◌, length, true, false, None, IsTrue, IfSome, IfOk, OnOk, OnErr};
+ghost use Rattle.std.specs.Prelude.{◌≡◌, ◌<◌, ℕ, List, [], ◌∷◌, length, slice_get, true, false, None, is_some, IsTrue, IfSome, IfOk, OnOk, OnErr};
 ghost use Rattle.std.specs.Option.{option_map, option_copied};
 ghost use Rattle.std.specs.List.{list_all};
 ghost use Rattle.model_types.specs.Structures as t;
@@ -14,7 +14,6 @@ ghost use Rattle.decl_scope.specs.Values.{value_if_any};
 ghost use Rattle.decl_scope.specs.Answers.{Declares};
 
 use crate::around::Around;
-use model_scopes::declarations::{Kind, Linkage};
 use crate::declared::Declared;
 use crate::entry::Entry;
 use crate::errors::ScopeError;
@@ -25,6 +24,7 @@ use crate::rules::{UNDEFINED_FUNCTION, broken_rule, constraint_at};
 use crate::table::Table;
 use c_types::{CType, Members, Structs};
 use cake_base::{Bytes, Fault, NoMemory, Place};
+use model_scopes::declarations::{Kind, Linkage};
 use model_types::marks::DeclId;
 use model_types::numbers::Const;
 use model_types::types::StructId;
@@ -109,9 +109,9 @@ impl Scopes {
         Ok(())
     }
 
-    /// Leaves the innermost scope. What is declared there isn't visible any more.
+    /// Leaves the innermost scope. What is declared there isn't visible any more. At file scope it does
+    /// nothing.
     pub fn leave(&mut self)
-        requires { m.is_outermost self.old.around ≡ false }
         ensures { self.new ≡ m.leave self.old }
     {
         unnest(&mut self.innermost, &mut self.around);
@@ -296,9 +296,46 @@ impl Scopes {
     /// Whether one of the declarations of an id defines it, or has the braces of a tag.
     pub fn is_defined(&self, id: DeclId) -> bool
         requires { IsTrue (m.is_declared id.0 self.now.declared) }
-        ensures { option_map (λ found. found.defined) (m.with_id id.0 self.now.declared) ≡ Some result }
+        ensures { option_map (λ found. m.is_defined found) (m.with_id id.0 self.now.declared) ≡ Some result }
     {
         self.table.get(id.0).unwrap().is_defined()
+    }
+
+    /// Whether one of the declarations of an id was noted to have its initializer or body.
+    pub fn is_initialized(&self, id: DeclId) -> bool
+        requires { IsTrue (m.is_declared id.0 self.now.declared) }
+        ensures { option_map (λ found. is_some found.initialized) (m.with_id id.0 self.now.declared) ≡ Some result }
+    {
+        self.table.get(id.0).unwrap().is_initialized()
+    }
+
+    /// The place that counts for an id where units are joined: that of the name in its definition, else
+    /// in its first tentative definition, else in its first declaration (6.9.2, 6.9.3).
+    pub fn joint_place(&self, id: DeclId) -> Place
+        requires { IsTrue (m.is_declared id.0 self.now.declared) }
+        ensures { option_map (λ found. j.joint_place found) (m.with_id id.0 self.now.declared) ≡ Some result }
+    {
+        self.table.get(id.0).unwrap().joint_place()
+    }
+
+    /// The number of ids that have a declaration.
+    pub fn declared_count(&self) -> usize
+        ensures { result ≡ length self.now.declared }
+    {
+        self.table.len()
+    }
+
+    /// The id of that rank, counted from 0 in the order of the first declarations, with its latest
+    /// declaration; none where the rank isn't below the count.
+    pub fn declared(&self, rank: usize) -> Option<(DeclId, &Entry)>
+        ensures entry { option_map {U = ℕ × d.Declaration} (λ e. (e.0.0, e.1.now)) result ≡ option_map {U = ℕ × d.Declaration} (λ e. (e.0, e.1.latest)) (slice_get self.now.declared rank) }
+        ensures same { (e : ℕ × m.Declared) → slice_get self.now.declared rank ≡ Some e → m.with_id e.0 self.now.declared ≡ Some e.1 }
+        ensures declared { IfSome result (λ e. IsTrue (m.is_declared e.0.0 self.now.declared)) }
+    {
+        match self.table.at(rank) {
+            Some((id, declared)) => Some((DeclId(id), declared.latest())),
+            None => None,
+        }
     }
 
     /// Gives the latest declaration of an id the type and the value that are known after its
@@ -310,6 +347,15 @@ impl Scopes {
         ensures { self.new ≡ j.settle id.0 ty (value_if_any value) self.old }
     {
         self.table.settle(id.0, ty, value);
+    }
+
+    /// Notes the place of the name in the declaration of an id that has its initializer or body. The
+    /// first is kept.
+    pub fn note_initialized(&mut self, id: DeclId, place: Place)
+        requires { IsTrue (m.is_declared id.0 self.old.declared) }
+        ensures { self.new ≡ j.note_initialized id.0 place self.old }
+    {
+        self.table.note_initialized(id.0, place);
     }
 
     /// Notes a use of an id that needs a definition, where it is an internal function.
@@ -428,7 +474,8 @@ fn nest(innermost: &mut Level, around: &mut Around, level: Level) -> Result<(), 
 
 /// Leaves the innermost scope for the one around it, if there is one.
 fn unnest(innermost: &mut Level, around: &mut Around)
-    ensures { (level : m.Level) (rest : List m.Level) → around.old ≡ level ∷ rest → (innermost.new ≡ level) × (around.new ≡ rest) }
+    ensures inner { (level : m.Level) (rest : List m.Level) → around.old ≡ level ∷ rest → (innermost.new ≡ level) × (around.new ≡ rest) }
+    ensures outermost { around.old ≡ [] → (innermost.new ≡ innermost.old) × (around.new ≡ []) }
 {
     if let Some(level) = around.pop() {
         *innermost = level;

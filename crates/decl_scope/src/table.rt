@@ -1,6 +1,6 @@
 //! What is declared, by its id.
-ghost use Rattle.std.specs.Prelude.{◌≡◌, ◌++◌, ◌∷◌, [], ℕ, List, None, OnOk, OnErr};
-ghost use Rattle.std.specs.Option.{option_copied};
+ghost use Rattle.std.specs.Prelude.{◌≡◌, ◌++◌, ◌∷◌, [], ℕ, List, None, OnOk, OnErr, length, slice_get};
+ghost use Rattle.std.specs.Option.{option_copied, option_map};
 ghost use Rattle.model_scopes.specs.Scopes as m;
 ghost use Rattle.model_scopes.specs.Declaring as d;
 ghost use Rattle.model_scopes.specs.NotedUses as u;
@@ -52,6 +52,24 @@ impl Table {
         self.entries.get(&id)
     }
 
+    /// How many have an id.
+    pub fn len(&self) -> usize
+        ensures { result ≡ length self.now }
+    {
+        self.entries.len()
+    }
+
+    /// What was declared in that rank, counted from 0, with its id.
+    pub fn at(&self, rank: usize) -> Option<(u32, &Declared)>
+        ensures entry { option_map (λ e. (e.0, e.1.now)) result ≡ slice_get self.now rank }
+        ensures same { (e : ℕ × m.Declared) → slice_get self.now rank ≡ Some e → m.with_id e.0 self.now ≡ Some e.1 }
+    {
+        match self.entries.get_index(rank) {
+            Some((id, declared)) => Some((*id, declared)),
+            None => None,
+        }
+    }
+
     /// Adds what has an id that isn't there. On refusal nothing has changed.
     pub fn add(&mut self, id: u32, declared: Declared) -> Result<(), NoMemory>
         requires { m.with_id id self.old ≡ None }
@@ -86,6 +104,16 @@ impl Table {
         if let Some(at) = self.entries.get_index_of(&id) {
             let declared = &mut self.entries[at];
             declared.settle(ty, value);
+        }
+    }
+
+    /// Notes the place of the name in the declaration of an id that has its initializer or body.
+    pub fn note_initialized(&mut self, id: u32, place: Place)
+        ensures { self.new ≡ m.changed (d.initialized_at place) id self.old }
+    {
+        if let Some(at) = self.entries.get_index_of(&id) {
+            let declared = &mut self.entries[at];
+            declared.note_initialized(place);
         }
     }
 

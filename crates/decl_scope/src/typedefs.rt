@@ -1,21 +1,11 @@
 //! When a name of a type may be declared again.
 ghost use Rattle.std.specs.Prelude.{◌≡◌};
 ghost use Rattle.model_types.specs.Types as t;
-ghost use Rattle.model_core.specs.SameTypes as s;
 ghost use Rattle.model_scopes.specs.SameTypedefs as m;
 ghost use Rattle.c_types.specs.Forms.{form_of};
 
 use c_types::{CType, TypeForm, same_ownership, same_quals};
-
-fn same_length(a: Option<u64>, b: Option<u64>) -> bool
-    ensures { result ≡ s.same_length a b }
-{
-    match (a, b) {
-        (Some(a), Some(b)) => a == b,
-        (None, None) => true,
-        _ => false,
-    }
-}
+use check_types::same_length;
 
 /// Whether two types are the same in every part, `const` and `restrict` of a parameter or a result
 /// itself aside.

@@ -1,5 +1,6 @@
 use Rattle.std.proofs.Common.{arith}
-use Rattle.decl_scope.proofs.ParameterLaws.{lists_differ, type_in_list}
+use Rattle.check_types.proofs.ParameterLaws.{type_in_list}
+use Rattle.decl_scope.proofs.PassedLists.{lists_differ}
 use Rattle.decl_scope.proofs.typedefs.+same.Goals as goal
 
 pub same_lists-returns-then-a-b : goal.same_lists-returns-then-a-b

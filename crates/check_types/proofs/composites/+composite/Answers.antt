@@ -1,7 +1,7 @@
 use Rattle.std.proofs.Common.{arith, ap}
 use Rattle.model_types.specs.Types as t
-use Rattle.decl_scope.proofs.ParameterLaws.{type_in_list, parameters_in_type, composed_all}
-use Rattle.decl_scope.proofs.composites.+composite.Goals as goal
+use Rattle.check_types.proofs.ParameterLaws.{type_in_list, parameters_in_type, composed_all}
+use Rattle.check_types.proofs.composites.+composite.Goals as goal
 
 pub composite-composite_types-requires : goal.composite-composite_types-requires
 composite-composite_types-requires n c =

@@ -1,14 +1,13 @@
 -- Types of parameters, as loops go over them.
-use Rattle.std.proofs.Common.{◌≡◌, ℕ, zero, suc, ◌+◌, ◌<◌, ◌≤◌, Bool, true, false, ◌&&◌, List, [], ◌∷◌, ◌++◌, length, drop, get_or, Option, Some, None, refl, ap, sym, ◌∙◌, cond, arith, slice_get}
+use Rattle.std.proofs.Common.{◌≡◌, ℕ, zero, suc, ◌+◌, ◌<◌, ◌≤◌, Bool, List, [], ◌∷◌, ◌++◌, length, drop, get_or, Option, Some, None, refl, ap, sym, ◌∙◌, cond, arith, slice_get}
 use Rattle.std.proofs.lemmas.List.{append-nil, drop_all}
 use Rattle.model_types.specs.Types.{CType, Types, no_types, more_types, types}
 use Rattle.model_scopes.specs.CompositeTypes.{composite, composite_types}
-use Rattle.model_scopes.specs.SameTypedefs.{same_passed, same_passed_lists}
 use Rattle.model_types.specs.Types.{Function, form_of_type, type_nodes, types_nodes, typed}
 use Rattle.c_types.specs.declared.types.TypeForm.{TypeForm}
 use Rattle.c_types.specs.declared.types.TypeForm.TheVariants as form
 use Rattle.c_types.specs.Forms.{form_of}
-use Rattle.decl_scope.specs.Parameters.{composite_if_any, composites}
+use Rattle.check_types.specs.Parameters.{composite_if_any, composites}
 
 pub composites_types : (ps qs : List CType) → types (composites ps qs) ≡ composite_types (types ps) (types qs)
 composites_types [] qs = refl
@@ -31,24 +30,6 @@ composites_step (a ∷ ps) (b ∷ qs) zero p h = let same : a ≡ p = cc in ap (
 composites_step (a ∷ ps) [] (suc i) p h = let z : suc i + 1 ≡ suc (i + 1) = omega arith in
     rw z (ap (composites (drop i ps)) (sym (drop_none i)) ∙ composites_step ps [] i p h ∙ ap (λ qs. p ∷ composites (drop (i + 1) ps) qs) (drop_none (i + 1)))
 composites_step (a ∷ ps) (b ∷ qs) (suc i) p h = let z : suc i + 1 ≡ suc (i + 1) = omega arith in rw z (composites_step ps qs i p h)
-
-pub lists_step : (ps qs : List CType) (i : ℕ) (p q : CType) → slice_get ps i ≡ Some p → slice_get qs i ≡ Some q
-    → same_passed_lists (types (drop i ps)) (types (drop i qs)) ≡ (same_passed p q && same_passed_lists (types (drop (i + 1) ps)) (types (drop (i + 1) qs)))
-lists_step [] qs i p q h k = cc
-lists_step (a ∷ ps) [] i p q h k = cc
-lists_step (a ∷ ps) (b ∷ qs) zero p q h k = let same : a ≡ p = cc in let equal : b ≡ q = cc in
-    ap (λ (x : CType). same_passed x b && same_passed_lists (types ps) (types qs)) same ∙ ap (λ (x : CType). same_passed p x && same_passed_lists (types ps) (types qs)) equal
-lists_step (a ∷ ps) (b ∷ qs) (suc i) p q h k = let z : suc i + 1 ≡ suc (i + 1) = omega arith in rw z (lists_step ps qs i p q h k)
-
-pub lists_differ : (ps qs : List CType) → (length ps ≡ length qs → ⊥) → false ≡ same_passed_lists (types ps) (types qs)
-lists_differ [] [] h = absurd (h refl)
-lists_differ [] (q ∷ qs) h = refl
-lists_differ (p ∷ ps) [] h = refl
-lists_differ (p ∷ ps) (q ∷ qs) h = by (same_passed p q) (lists_differ ps qs (λ e. h (ap suc e)))
-  where
-    by : (b : Bool) → false ≡ same_passed_lists (types ps) (types qs) → false ≡ (b && same_passed_lists (types ps) (types qs))
-    by true e = e
-    by false e = refl
 
 -- ---- types in a type are smaller
 

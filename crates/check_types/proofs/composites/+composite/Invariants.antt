@@ -1,7 +1,7 @@
 use Rattle.std.proofs.Common.{◌≡◌, ◌≤◌, ◌+◌, ◌*◌, ◌++◌, length, drop}
 use Rattle.model_types.specs.Types as t
-use Rattle.decl_scope.specs.Parameters.{composites}
-use Rattle.decl_scope.proofs.composites.+composite.Given as goal
+use Rattle.check_types.specs.Parameters.{composites}
+use Rattle.check_types.proofs.composites.+composite.Given as goal
 
 abbrev pub invariant-composite_types-loop-at : goal.invariant-composite_types-loop-at
 invariant-composite_types-loop-at l = l.made ++ composites (drop l.at l.ps) (drop l.at l.qs) ≡ composites l.ps l.qs

@@ -3,7 +3,7 @@ ghost use Rattle.std.specs.Prelude.{◌≡◌, IfOk};
 ghost use Rattle.std.specs.Option.{option_copied};
 ghost use Rattle.model_types.specs.Types as t;
 ghost use Rattle.model_scopes.specs.CompositeTypes as m;
-ghost use Rattle.decl_scope.specs.Parameters.{composite_if_any};
+ghost use Rattle.check_types.specs.Parameters.{composite_if_any};
 
 use c_types::{CType, TypeForm, TypeList};
 use cake_base::NoMemory;
