@@ -37,7 +37,7 @@ lvalue_of (l.Deref pointer mark) = m.Deref pointer mark
 lvalue_of (l.Index is_second first second mark) = m.Index is_second first second mark
 lvalue_of (l.Field structure rank type name mark) = m.Field structure rank type name mark
 lvalue_of (l.Arrow pointer rank type name mark) = m.Arrow pointer rank type name mark
-lvalue_of (l.Literal id type values mark) = m.Literal id.0 type (initials values) mark
+lvalue_of (l.Literal origin id type values mark) = m.Literal origin id.0 type (initials values) mark
 
 -- the initial value of its parts
 abbrev pub initial_of : CoreInitialForm → Initial

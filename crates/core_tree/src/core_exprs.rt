@@ -158,8 +158,10 @@ pub enum CoreLvalueForm {
         name: Place,
         mark: Mark,
     },
-    /// A compound literal, whose object gets its values each time.
+    /// A compound literal; or, implied, the object of a structure's value whose array member is asked for. It
+    /// gets its values each time.
     Literal {
+        origin: Origin,
         id: DeclId,
         ty: CType,
         values: Items<CoreInitial>,

@@ -1,18 +1,16 @@
 -- What the expressions of a C89 program do with the values of their operands (ISO/IEC 9899:1990, 6.2, 6.3):
 -- a text's runs have no places.
-use Rattle.std.specs.Prelude.{ℕ, ℤ, pos, ◌+ℤ◌, ◌*ℤ◌, Bool, true, false, ◌||◌, List, Option, Some, None, if◌then◌else◌}
+use Rattle.std.specs.Prelude.{ℕ, pos, ◌*ℤ◌, Bool, true, false, ◌||◌, List, Option, Some, None, if◌then◌else◌}
 use Rattle.model_types.specs.declared.numbers.Basic.{Basic}
 use Rattle.model_types.specs.declared.numbers.Basic.TheVariants.{Int as int}
 use Rattle.model_types.specs.declared.numbers.BinOp.{BinOp}
-use Rattle.model_types.specs.declared.operators.LogicOp.{LogicOp}
-use Rattle.model_types.specs.declared.operators.LogicOp.TheVariants.{And, Or}
 use Rattle.model_types.specs.declared.operators.UnaryOp.{UnaryOp}
 use Rattle.model_types.specs.declared.operators.UnaryOp.TheVariants.{Minus, Complement}
-use Rattle.model_types.specs.declared.outcomes.Cause.TheVariants.{Null as NullCause, Kind}
+use Rattle.model_types.specs.declared.outcomes.Cause.TheVariants.{Kind}
 use Rattle.model_types.specs.Conversions.{promoted, operand_type, is_shift, is_comparison}
 use Rattle.model_types.specs.Compatible.{same_basic}
 use Rattle.model_core.specs.Types89.{Void, Type89, Based, Array}
-use Rattle.model_runs.specs.Memory.{Scalar, Number, Null, Address, Code, Value, Missing, Single, Structure}
+use Rattle.model_runs.specs.Memory.{Scalar, Address, Value, Missing, Single, Structure}
 use Rattle.model_runs.specs.Loads.{value_at}
 use Rattle.model_runs.specs.Applied.{applied, applied_unary, is_true, truth_value, converted, ToInteger, ToPointer}
 use Rattle.model_runs.specs.Accesses.{load_from}

@@ -103,7 +103,7 @@ abbrev mutual
   object_type (unit.Index is_second first second mark) = pointee (form_of_type (if is_second then type_of second else type_of first))
   object_type (unit.Field structure rank type name mark) = type
   object_type (unit.Arrow pointer rank type name mark) = type
-  object_type (unit.Literal id type values mark) = type
+  object_type (unit.Literal origin id type values mark) = type
 
 abbrev pub types_of : unit.Exprs → List CType
 types_of unit.no_exprs = []

@@ -29,7 +29,7 @@ lvalue_mark (unit.Deref pointer mark) = mark
 lvalue_mark (unit.Index is_second first second mark) = mark
 lvalue_mark (unit.Field structure rank type name mark) = mark
 lvalue_mark (unit.Arrow pointer rank type name mark) = mark
-lvalue_mark (unit.Literal id type values mark) = mark
+lvalue_mark (unit.Literal origin id type values mark) = mark
 
 abbrev pub at_mark : Mark → Option Place
 at_mark mark = Some mark.at

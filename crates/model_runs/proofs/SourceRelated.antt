@@ -136,7 +136,7 @@ module _ (j d : ℕ) where
       locate_related (unit.Field structure rank type name mark) = then_related j d _ _ _ _ (locate_related structure) (λ l. just_related j d _)
       locate_related (unit.Arrow pointer rank type name mark) =
           then_related j d _ _ _ _ (followed_related pointer mark _ _ (evaluate_related pointer)) (λ l. just_related j d _)
-      locate_related (unit.Literal id type values mark) = then_related j d _ _ _ _ (initialise_related (block_of f.core f.call id) values) (λ u. just_related j d _)
+      locate_related (unit.Literal origin id type values mark) = then_related j d _ _ _ _ (initialise_related (block_of f.core f.call id) values) (λ u. just_related j d _)
 
       pub values_related : (es : unit.Exprs) → Rel j d (values_of f es) (values_of g es)
       values_related unit.no_exprs = just_related j d []

@@ -1,25 +1,22 @@
 -- What the expressions of a unit do with the values of their operands (ISO/IEC 9899:2024, 6.3, 6.5).
-use Rattle.std.specs.Prelude.{ℕ, ℤ, pos, ◌+ℤ◌, Bool, true, false, List, Option, if◌then◌else◌}
+use Rattle.std.specs.Prelude.{ℕ, ℤ, pos, List, if◌then◌else◌}
 use Rattle.std.specs.Option.{unwrap_or}
-use Rattle.cake_base.specs.declared.places.Place.{Place}
 use Rattle.model_types.specs.declared.numbers.BinOp.{BinOp}
 use Rattle.model_types.specs.declared.numbers.BinOp.TheVariants.{Add, Sub}
-use Rattle.model_types.specs.declared.operators.LogicOp.{LogicOp}
-use Rattle.model_types.specs.declared.operators.LogicOp.TheVariants.{And, Or}
 use Rattle.model_types.specs.declared.operators.StepOp.{StepOp}
 use Rattle.model_types.specs.declared.operators.StepOp.TheVariants.{Increment, Decrement}
 use Rattle.model_types.specs.declared.operators.StepSide.{StepSide}
 use Rattle.model_types.specs.declared.operators.StepSide.TheVariants.{Prefix, Postfix}
 use Rattle.model_types.specs.declared.marks.Mark.{Mark}
-use Rattle.model_types.specs.declared.outcomes.Cause.TheVariants.{Null as NullCause, Kind}
-use Rattle.model_types.specs.Types.{CType, typed, Form, Void, Integer, Enum, Pointer, Struct, form_of_type}
+use Rattle.model_types.specs.declared.outcomes.Cause.TheVariants.{Kind}
+use Rattle.model_types.specs.Types.{CType, typed, Void, Integer, Enum, Pointer, form_of_type}
 use Rattle.model_types.specs.declared.numbers.Basic.TheVariants.{Bool as bool}
 use Rattle.model_types.specs.Operations.{convert}
 use Rattle.model_types.specs.Structures.{Structure}
 use Rattle.model_types.specs.Layout.{member_offset}
-use Rattle.model_runs.specs.Memory.{Scalar, Number, Null, Address, Code, Value, Missing, Single, Structure as StructureValue}
+use Rattle.model_runs.specs.Memory.{Scalar, Number, Null, Value, Missing, Single, Structure as StructureValue}
 use Rattle.model_runs.specs.Loads.{value_at}
-use Rattle.model_runs.specs.Applied.{applied, is_true, truth_value, converted, ToInteger, ToPointer}
+use Rattle.model_runs.specs.Applied.{applied, converted, ToInteger, ToPointer}
 use Rattle.model_runs.specs.Accesses.{load_from, store_to}
 use Rattle.model_runs.specs.Run.{Act, ◌▷◌, just, ends, given, Undefined}
 use Rattle.model_core.specs.CoreTypes.{object_type, is_pointer, basic_of, shape_of, step_size}

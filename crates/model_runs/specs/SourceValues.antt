@@ -89,7 +89,7 @@ abbrev mutual
       locate f structure ▷ (λ l. just (member_at f.core.structs (object_type structure) rank l))
   locate f (unit.Arrow pointer rank type name mark) =
       followed pointer mark (evaluate f pointer) ▷ (λ l. just (member_at f.core.structs (pointee (form_of_type (type_of pointer))) rank l))
-  locate f (unit.Literal id type values mark) =
+  locate f (unit.Literal origin id type values mark) =
       initialise f (block_of f.core f.call id) values ▷ (λ u. just (record { block = block_of f.core f.call id; offset = pos 0 }))
 
   -- the values of arguments

@@ -43,7 +43,7 @@ lvalue_falls (l.Deref pointer mark) = omega arith
 lvalue_falls (l.Index is_second first second mark) = omega arith
 lvalue_falls (l.Field structure rank type name mark) = omega arith
 lvalue_falls (l.Arrow pointer rank type name mark) = omega arith
-lvalue_falls (l.Literal id type values mark) = omega (arith, most_initials values)
+lvalue_falls (l.Literal origin id type values mark) = omega (arith, most_initials values)
 
 pub initial_falls : (f : CoreInitialForm) → max (deep-CoreInitialForm f) 0 ≤ initial_nodes (initial_of f)
 initial_falls f = omega arith
