@@ -27,7 +27,7 @@ expr_of (e.Convert origin type operand mark) = m.Convert origin type operand mar
 expr_of (e.Call function arguments mark) = m.Call function (m.exprs arguments) mark
 expr_of (e.Assign assignment object value mark) = m.Assign (assignment_of assignment) object value mark
 expr_of (e.Step op side type object mark) = m.Step op side type object mark
-expr_of (e.Member structure rank type name mark) = m.Member structure rank type name mark
+expr_of (e.MemberValue structure rank type name mark) = m.MemberValue structure rank type name mark
 expr_of (e.Comma first second mark) = m.Comma first second mark
 
 -- the lvalue of a form

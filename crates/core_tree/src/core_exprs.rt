@@ -101,7 +101,7 @@ pub enum CoreExprForm {
         mark: Mark,
     },
     /// The member of a rank, counted from 0, of a structure value, with its type and the place of its name.
-    Member {
+    MemberValue {
         structure: CoreExpr,
         rank: u32,
         ty: CType,

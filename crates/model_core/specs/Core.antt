@@ -35,7 +35,7 @@ mutual
     Call : (function : Expr) (arguments : Exprs) (mark : Mark) → Expr
     Assign : (assignment : Assignment) (object : Lvalue) (value : Expr) (mark : Mark) → Expr
     Step : (op : StepOp) (side : StepSide) (type : CType) (object : Lvalue) (mark : Mark) → Expr
-    Member : (structure : Expr) (rank : ℕ) (type : CType) (name : Place) (mark : Mark) → Expr
+    MemberValue : (structure : Expr) (rank : ℕ) (type : CType) (name : Place) (mark : Mark) → Expr
     Comma : (first second : Expr) (mark : Mark) → Expr
 
   -- an expression that designates an object (6.3.3.1); of an index, `is_second` says that the pointer is

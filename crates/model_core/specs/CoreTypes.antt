@@ -93,7 +93,7 @@ abbrev mutual
   type_of (unit.Call function arguments mark) = called_type (form_of_type (type_of function))
   type_of (unit.Assign assignment object value mark) = unqualified (object_type object)
   type_of (unit.Step op side type object mark) = unqualified (object_type object)
-  type_of (unit.Member structure rank type name mark) = unqualified type
+  type_of (unit.MemberValue structure rank type name mark) = unqualified type
   type_of (unit.Comma first second mark) = type_of second
 
   -- the type of the object that an lvalue designates, with its qualifiers

@@ -28,7 +28,7 @@ abbrev mutual
   in_expr (unit.Assign (unit.Compound op type) object value mark) =
       Operates (unit.Assign (unit.Compound op type) object value mark) ∷ (in_lvalue object ++ in_expr value)
   in_expr (unit.Step op side type object mark) = Operates (unit.Step op side type object mark) ∷ in_lvalue object
-  in_expr (unit.Member structure rank type name mark) = Operates (unit.Member structure rank type name mark) ∷ in_expr structure
+  in_expr (unit.MemberValue structure rank type name mark) = Operates (unit.MemberValue structure rank type name mark) ∷ in_expr structure
   in_expr (unit.Comma a b mark) = in_expr a ++ in_expr b
 
   -- itself, and those in it

@@ -20,7 +20,7 @@ expr_mark (unit.Convert origin type operand mark) = mark
 expr_mark (unit.Call function arguments mark) = mark
 expr_mark (unit.Assign assignment object value mark) = mark
 expr_mark (unit.Step op side type object mark) = mark
-expr_mark (unit.Member structure rank type name mark) = mark
+expr_mark (unit.MemberValue structure rank type name mark) = mark
 expr_mark (unit.Comma first second mark) = mark
 
 abbrev pub lvalue_mark : unit.Lvalue → Mark

@@ -50,7 +50,7 @@ abbrev mutual
       is_typed_lvalue object && is_typed value && may_be_assigned (object_type object) && assignment_fits assignment object value
   is_typed (unit.Step op side type object mark) =
       is_typed_lvalue object && may_be_assigned (object_type object) && step_fits (form_of_type type) (object_form object)
-  is_typed (unit.Member structure rank type name mark) = is_typed structure && is_struct (form_of structure) && is_storable (form_of_type type)
+  is_typed (unit.MemberValue structure rank type name mark) = is_typed structure && is_struct (form_of structure) && is_storable (form_of_type type)
   is_typed (unit.Comma a b mark) = is_typed a && is_typed b
 
   pub is_typed_lvalue : unit.Lvalue → Bool

@@ -113,7 +113,7 @@ abbrev mutual
       expr_stands s function && exprs_stand s arguments && call_is_usable s.core.structs (form_of_type (pointee (form_of function)))
   expr_stands s (unit.Assign assignment object value mark) = lvalue_stands s object && expr_stands s value && assigned_is s.core.structs assignment object
   expr_stands s (unit.Step op side type object mark) = lvalue_stands s object && can_move s.core.structs (object_form object)
-  expr_stands s (unit.Member structure rank type name mark) = expr_stands s structure && member_value_is s.core.structs (type_of structure) rank type
+  expr_stands s (unit.MemberValue structure rank type name mark) = expr_stands s structure && member_value_is s.core.structs (type_of structure) rank type
   expr_stands s (unit.Comma a b mark) = expr_stands s a && expr_stands s b
 
   pub lvalue_stands : Scope → unit.Lvalue → Bool

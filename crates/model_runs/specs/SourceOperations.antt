@@ -14,11 +14,11 @@ use Rattle.model_types.specs.declared.numbers.Basic.TheVariants.{Bool as bool}
 use Rattle.model_types.specs.Operations.{convert}
 use Rattle.model_types.specs.Structures.{Structure}
 use Rattle.model_types.specs.Layout.{member_offset}
-use Rattle.model_runs.specs.Memory.{Scalar, Number, Null, Value, Missing, Single, Structure as StructureValue}
+use Rattle.model_runs.specs.Memory.{Scalar, Number, Null, Value, Missing, Single, StructureValue}
 use Rattle.model_runs.specs.Loads.{value_at}
 use Rattle.model_runs.specs.Applied.{applied, converted, ToInteger, ToPointer}
 use Rattle.model_runs.specs.Accesses.{load_from, store_to}
-use Rattle.model_runs.specs.Run.{Act, ◌▷◌, just, ends, given, Undefined}
+use Rattle.model_runs.specs.Run.{Act, ◌▷◌, just, ends, unless_undefined, Undefined}
 use Rattle.model_core.specs.CoreTypes.{object_type, is_pointer, basic_of, shape_of, step_size}
 use Rattle.model_core.specs.SourceMarks.{at_mark, lvalue_mark}
 use Rattle.model_runs.specs.Operands.{Location, further}
@@ -60,7 +60,7 @@ store_object f object location value =
 
 -- a binary operator on operands of these types, in the type of the left one
 abbrev pub operated_on : Frame → BinOp → Mark → (left right : CType) → Scalar → Scalar → Act Scalar
-operated_on f op mark left right a b = given (at_mark mark) (applied op (basic_of (form_of_type left)) (step_size f.core.structs left right) a b)
+operated_on f op mark left right a b = unless_undefined (at_mark mark) (applied op (basic_of (form_of_type left)) (step_size f.core.structs left right) a b)
 
 abbrev pub step_op : StepOp → BinOp
 step_op Increment = Add
@@ -73,7 +73,7 @@ by_side Postfix old new = old
 -- the values of a structure's member
 abbrev pub member_value : Frame → Mark → (structure member : CType) → (rank : ℕ) → Value → Act Value
 member_value f mark structure member rank (StructureValue cells) =
-    given (at_mark mark) (value_at (shape_of f.core.structs member) cells (unwrap_or (member_offset f.core.structs structure rank) 0))
+    unless_undefined (at_mark mark) (value_at (shape_of f.core.structs member) cells (unwrap_or (member_offset f.core.structs structure rank) 0))
 member_value f mark structure member rank value = ends (Undefined Kind (at_mark mark))
 
 -- the value of a compound assignment or of `++` and `--`: the old value, converted to the type in which it

@@ -33,7 +33,7 @@ abbrev mutual
   put_expr (m.Call function arguments mark) = gcons (gnum 9) (gcons (put_expr function) (gcons (put_exprs arguments) (put_mark mark)))
   put_expr (m.Assign assignment object value mark) = gcons (gnum 10) (gcons (put_assignment assignment) (gcons (put_lvalue object) (gcons (put_expr value) (put_mark mark))))
   put_expr (m.Step op side type object mark) = gcons (gnum 11) (gcons (put_step op) (gcons (put_side side) (gcons (put_type type) (gcons (put_lvalue object) (put_mark mark)))))
-  put_expr (m.Member structure rank type name mark) = gcons (gnum 12) (gcons (put_expr structure) (gcons (put_nat rank) (gcons (put_type type) (gcons (put_place name) (put_mark mark)))))
+  put_expr (m.MemberValue structure rank type name mark) = gcons (gnum 12) (gcons (put_expr structure) (gcons (put_nat rank) (gcons (put_type type) (gcons (put_place name) (put_mark mark)))))
   put_expr (m.Comma first second mark) = gcons (gnum 13) (gcons (put_expr first) (gcons (put_expr second) (put_mark mark)))
 
   pub put_lvalue : m.Lvalue → Gv
@@ -67,7 +67,7 @@ abbrev mutual
   get_expr (gcons (gnum (suc (suc (suc (suc (suc (suc (suc (suc (suc zero)))))))))) (gcons a (gcons b c))) = m.Call (get_expr a) (get_exprs b) (get_mark c)
   get_expr (gcons (gnum (suc (suc (suc (suc (suc (suc (suc (suc (suc (suc zero))))))))))) (gcons a (gcons b (gcons c d)))) = m.Assign (get_assignment a) (get_lvalue b) (get_expr c) (get_mark d)
   get_expr (gcons (gnum (suc (suc (suc (suc (suc (suc (suc (suc (suc (suc (suc zero)))))))))))) (gcons a (gcons b (gcons c (gcons d e))))) = m.Step (get_step a) (get_side b) (get_type c) (get_lvalue d) (get_mark e)
-  get_expr (gcons (gnum (suc (suc (suc (suc (suc (suc (suc (suc (suc (suc (suc (suc zero))))))))))))) (gcons a (gcons b (gcons c (gcons d e))))) = m.Member (get_expr a) (get_nat b) (get_type c) (get_place d) (get_mark e)
+  get_expr (gcons (gnum (suc (suc (suc (suc (suc (suc (suc (suc (suc (suc (suc (suc zero))))))))))))) (gcons a (gcons b (gcons c (gcons d e))))) = m.MemberValue (get_expr a) (get_nat b) (get_type c) (get_place d) (get_mark e)
   get_expr (gcons (gnum (suc (suc (suc (suc (suc (suc (suc (suc (suc (suc (suc (suc (suc zero)))))))))))))) (gcons a (gcons b c))) = m.Comma (get_expr a) (get_expr b) (get_mark c)
   get_expr _ = m.Constant (get_int gnil) (get_type gnil) (get_mark gnil)
 
@@ -103,7 +103,7 @@ mutual
   expr_back (m.Call function arguments mark) = λ i. m.Call (expr_back function i) (exprs_back arguments i) mark
   expr_back (m.Assign assignment object value mark) = λ i. m.Assign (assignment_back assignment i) (lvalue_back object i) (expr_back value i) mark
   expr_back (m.Step op side type object mark) = λ i. m.Step (step_back op i) (side_back side i) (type_back type i) (lvalue_back object i) mark
-  expr_back (m.Member structure rank type name mark) = λ i. m.Member (expr_back structure i) rank (type_back type i) name mark
+  expr_back (m.MemberValue structure rank type name mark) = λ i. m.MemberValue (expr_back structure i) rank (type_back type i) name mark
   expr_back (m.Comma first second mark) = λ i. m.Comma (expr_back first i) (expr_back second i) mark
 
   pub lvalue_back : (l : m.Lvalue) → get_lvalue (put_lvalue l) ≡ l

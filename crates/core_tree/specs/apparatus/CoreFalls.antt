@@ -34,7 +34,7 @@ expr_falls (e.Convert origin type operand mark) = omega arith
 expr_falls (e.Call function arguments mark) = omega (arith, most_exprs arguments)
 expr_falls (e.Assign assignment object value mark) = omega arith
 expr_falls (e.Step op side type object mark) = omega arith
-expr_falls (e.Member structure rank type name mark) = omega arith
+expr_falls (e.MemberValue structure rank type name mark) = omega arith
 expr_falls (e.Comma first second mark) = omega arith
 
 pub lvalue_falls : (f : CoreLvalueForm) → max (deep-CoreLvalueForm f) 0 ≤ lvalue_nodes (lvalue_of f)

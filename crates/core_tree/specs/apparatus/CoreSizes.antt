@@ -17,7 +17,7 @@ abbrev mutual
   expr_nodes (m.Call function arguments mark) = 1 + expr_nodes function + exprs_nodes arguments
   expr_nodes (m.Assign assignment object value mark) = 1 + lvalue_nodes object + expr_nodes value
   expr_nodes (m.Step op side type object mark) = 1 + lvalue_nodes object
-  expr_nodes (m.Member structure rank type name mark) = 1 + expr_nodes structure
+  expr_nodes (m.MemberValue structure rank type name mark) = 1 + expr_nodes structure
   expr_nodes (m.Comma first second mark) = 1 + expr_nodes first + expr_nodes second
 
   pub lvalue_nodes : m.Lvalue → ℕ
