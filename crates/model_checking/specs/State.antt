@@ -1,10 +1,10 @@
 -- What checking knows at a point of a unit, and what it has made so far (ISO/IEC 9899:2024, 6.2.1, 6.2.4, 6.5.3.6).
-use Rattle.std.specs.Prelude.{ℕ, ◌+◌, Bool, List, [], ◌∷◌, ◌++◌, Option, Some, None, Result, Ok, Err}
+use Rattle.std.specs.Prelude.{ℕ, Bool, List, [], Option, Some, None, Result, Ok, Err}
 use Rattle.cake_base.specs.declared.places.Place.{Place}
 use Rattle.cake_base.specs.declared.rules.Fault.{Fault}
 use Rattle.model_types.specs.Types.{CType}
 use Rattle.model_scopes.specs.Declarations.{Declaration}
-use Rattle.model_scopes.specs.Scopes.{Scopes, file_scope}
+use Rattle.model_scopes.specs.Scopes.{Scopes}
 use Rattle.model_scopes.specs.DeclarationRules.{constraint_at}
 use Rattle.model_grammar.specs.SyntaxForms as syntax
 use Rattle.model_core.specs.Core as unit
@@ -79,6 +79,13 @@ then_do (Err fault) go = Err fault
 abbrev pub unless : {A : Type 0} → Option Fault → Result A Fault → Result A Fault
 unless None behind = behind
 unless (Some fault) behind = Err fault
+
+-- a right part, and what is made of it; the first fault that the left part alone breaks counts where the right one is
+-- faulty, since it stands before it
+abbrev pub beside : {A B : Type 0} → (left : Option Fault) → Answer A → (A → State → Answer B) → Answer B
+beside left (Ok both) go = go both.made both.state
+beside None (Err fault) go = Err fault
+beside (Some left) (Err fault) go = Err left
 
 -- what the rules make of plain values, in a state that they leave alone
 abbrev pub with_state : {A : Type 0} → Result A Fault → State → Answer A
