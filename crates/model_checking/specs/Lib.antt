@@ -9,6 +9,7 @@ pub mod Conversion
 pub mod ConstantValues
 pub mod NamedObjects
 pub mod Literals
+pub mod HeldValues
 pub mod UnaryRules
 pub mod PointerRules
 pub mod BinaryRules

@@ -25,12 +25,14 @@ use Rattle.model_checking.specs.State.{Use, Evaluated, State, breaks, unless}
 use Rattle.model_checking.specs.Meanings.{Meaning, a_place, a_value, a_function, a_target, Operand}
 use Rattle.model_checking.specs.Faults.{wants, or_fault}
 use Rattle.model_checking.specs.MadeCore.{value_of, operand, operand_form, promoted_value, basic_in, integer_type}
+use Rattle.model_checking.specs.HeldValues.{is_held}
 use Rattle.model_checking.specs.PointerRules.{points_to_object, moved_fault}
 
--- ---- `&`: C11 where the operand is neither an object nor a function
+-- ---- `&`: C11 where the operand is neither an object nor a function; an array of a structure's value is none
 
 abbrev pub address : Mark → (first : Place) → Meaning → Result Meaning Fault
-address mark first (a_place object known) = Ok (a_value (unit.Address Written object mark))
+address mark first (a_place object known) =
+    unless (wants (not (is_held object)) first 11) (Ok (a_value (unit.Address Written object mark)))
 address mark first (a_value value) = breaks first 11
 address mark first (a_function id type by_name at) = Ok (a_value (unit.FunctionRef id type false at))
 address mark first (a_target pointer) = Ok (a_value pointer)
