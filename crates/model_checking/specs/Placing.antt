@@ -1,6 +1,6 @@
 -- The subobjects that an object's initializer is for (ISO/IEC 9899:2024, 6.7.11): what is placed where, in the order of
 -- the source, up to the first of C33, C34 and C35, or of the faults of values and indices.
-use Rattle.std.specs.Prelude.{ℕ, nat_le, Bool, true, false, not, if◌then◌else◌, List, [], ◌∷◌, ◌++◌, length, Option, Some, None, option_and_then, unwrap_or, Result, Ok, Err}
+use Rattle.std.specs.Prelude.{ℕ, nat_le, Bool, true, false, not, if◌then◌else◌, List, [], ◌∷◌, ◌++◌, length, Option, Some, None, option_and_then, option_map, unwrap_or, Result, Ok, Err}
 use Rattle.cake_base.specs.declared.places.Place.{Place}
 use Rattle.cake_base.specs.declared.rules.Fault.{Fault}
 use Rattle.model_types.specs.Types.{CType, Form, Array, form_of_type}
@@ -11,7 +11,8 @@ use Rattle.model_core.specs.TypedParts.{is_array}
 use Rattle.model_core.specs.Core as unit
 use Rattle.model_checking.specs.State.{breaks}
 use Rattle.model_checking.specs.Parts.{GivenStep, to_element, to_no_element, to_member, faulty_index, Given, a_value, a_text, in_braces, faulty, GivenItems, no_given, more_given}
-use Rattle.model_checking.specs.FaultOrder.{first_of_two, and_then, or_breaks}
+use Rattle.model_checking.specs.FaultOrder.{first_fault}
+use Rattle.model_checking.specs.MadeCore.{used_fault}
 use Rattle.model_checking.specs.Ways.{Step, a_string, a_value_of, reached, ranks, step_to, start, behind, member_rank, is_character_array, takes, taker}
 
 -- what is placed: a value, with the first fault of its function literals; a string, with its object; or the zeros with
@@ -57,6 +58,11 @@ on_way (Err fault) place = stopped fault
 
 -- ---- where a part of a list begins: where its designators lead, else behind the part before it
 
+-- what there is; where there is nothing, a rule is broken
+abbrev pub or_breaks : {A : Type 0} → Option A → (place : Place) → (rule : ℕ) → Result A Fault
+or_breaks (Some x) place rule = Ok x
+or_breaks None place rule = breaks place rule
+
 -- a designator is an index of an array, or names a member of a structure; its index may be faulty by itself
 abbrev pub designated_one : List Structure → (whole : CType) → GivenStep → List Step → Result (List Step) Fault
 designated_one structs whole (to_element index place) way =
@@ -65,9 +71,13 @@ designated_one structs whole (to_no_element place) way = breaks place 34
 designated_one structs whole (faulty_index fault place) way = if is_array (form_of_type whole) then Err fault else breaks place 34
 designated_one structs whole (to_member name place) way = or_breaks (option_and_then (λ rank. step_to structs whole rank way) (member_rank structs (form_of_type whole) name)) place 34
 
+abbrev pub after : {A B : Type 0} → Result A Fault → (A → Result B Fault) → Result B Fault
+after (Ok x) go = go x
+after (Err fault) go = Err fault
+
 abbrev pub designated : List Structure → (object : CType) → List GivenStep → List Step → Result (List Step) Fault
 designated structs object [] way = Ok way
-designated structs object (d ∷ ds) way = and_then (designated_one structs (reached object way) d way) (designated structs object ds)
+designated structs object (d ∷ ds) way = after (designated_one structs (reached object way) d way) (designated structs object ds)
 
 abbrev pub begin : List Structure → (object : CType) → (next : Option (List Step)) → List GivenStep → (first : Place) → Result (List Step) Fault
 begin structs object next [] first = or_breaks next first 33
@@ -81,17 +91,23 @@ given_first (a_text id bytes value first) = first
 given_first (in_braces items place) = place
 given_first (faulty fault first) = first
 
--- a fault of a value, where its place in the list is known or broken
-abbrev pub or_own : Result (List Step) Fault → Fault → Fault
-or_own (Ok way) own = own
-or_own (Err fault) own = first_of_two fault own
+-- of a fault at what is given and those that it has by itself, the first
+abbrev pub with_own : List Structure → Given → Fault → Fault
+with_own structs (a_value value first later) fault = unwrap_or (option_map (first_fault fault) (used_fault structs (record { value = value; first = first }))) fault
+with_own structs (a_text id bytes value first) fault = fault
+with_own structs (in_braces items place) fault = fault
+with_own structs (faulty own first) fault = first_fault fault own
 
--- the way to it from where it begins; braces are for what they stand at
+-- the way to what takes it, from where it begins; braces are for what they stand at
+abbrev pub aimed_from : List Structure → (object : CType) → Given → List Step → Result (List Step) Fault
+aimed_from structs object (a_value value first later) way = or_breaks (taker structs (a_value_of (type_of value)) object way) first 35
+aimed_from structs object (a_text id bytes value first) way = or_breaks (taker structs a_string object way) first 35
+aimed_from structs object (in_braces items place) way = Ok way
+aimed_from structs object (faulty fault first) way = Err fault
+
 abbrev pub aimed : List Structure → (object : CType) → Given → Result (List Step) Fault → Result (List Step) Fault
-aimed structs object (a_value value first later) begun = and_then begun (λ way. or_breaks (taker structs (a_value_of (type_of value)) object way) first 35)
-aimed structs object (a_text id bytes value first) begun = and_then begun (λ way. or_breaks (taker structs a_string object way) first 35)
-aimed structs object (in_braces items place) begun = begun
-aimed structs object (faulty fault first) begun = Err (or_own begun fault)
+aimed structs object given (Ok way) = aimed_from structs object given way
+aimed structs object given (Err fault) = Err (with_own structs given fault)
 
 -- ---- what is placed there
 
@@ -153,10 +169,7 @@ fits_whole form (a_text id bytes value first) = takes a_string form
 fits_whole form (a_value value first later) = takes (a_value_of (type_of value)) form
 fits_whole form (faulty fault first) = not (is_array form)
 
--- C35, and of a faulty value what comes first
-abbrev pub misfit : Given → Fault
-misfit (faulty fault first) = first_of_two (constraint_at first 35) fault
-misfit given = constraint_at (given_first given) 35
-
 abbrev pub placement : List Structure → (object : CType) → Given → Placement
-placement structs object given = if fits_whole (form_of_type object) given then place_at structs object [] given else stopped (misfit given)
+placement structs object given =
+    if fits_whole (form_of_type object) given then place_at structs object [] given
+    else stopped (with_own structs given (constraint_at (given_first given) 35))
