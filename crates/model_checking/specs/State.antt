@@ -80,6 +80,13 @@ abbrev pub unless : {A : Type 0} → Option Fault → Result A Fault → Result 
 unless None behind = behind
 unless (Some fault) behind = Err fault
 
+-- a right part, and what is made of it; the first fault that the left part alone breaks counts where the right one is
+-- faulty, since it stands before it
+abbrev pub beside : {A B : Type 0} → (left : Option Fault) → Answer A → (A → State → Answer B) → Answer B
+beside left (Ok both) go = go both.made both.state
+beside None (Err fault) go = Err fault
+beside (Some left) (Err fault) go = Err left
+
 -- what the rules make of plain values, in a state that they leave alone
 abbrev pub with_state : {A : Type 0} → Result A Fault → State → Answer A
 with_state (Ok x) s = gives x s
