@@ -19,3 +19,13 @@ pub mod AssignRules
 pub mod ChoiceRules
 pub mod CastRules
 pub mod SizeRules
+pub mod FaultOrder
+pub mod Ways
+pub mod Placing
+pub mod Fitting
+pub mod Subobjects
+pub mod InitialValues
+pub mod ArrayLengths
+pub mod ScalarCounts
+pub mod Initializing
+pub mod CompoundLiterals
