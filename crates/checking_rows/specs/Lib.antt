@@ -1,3 +1,9 @@
+pub mod ExpressionParts
+pub mod ExpressionOrder
+pub mod ExpressionPointers
+pub mod ExpressionStructures
+pub mod ExpressionConstants
+pub mod ExpressionNames
 pub mod InitializerParts
 pub mod InitializerLists
 pub mod InitializerDesignators
