@@ -1,3 +1,5 @@
 pub mod State
 pub mod Meanings
 pub mod Parts
+pub mod LaterForms
+pub mod OwnName
