@@ -17,7 +17,7 @@ pub data Use : Type 0 where
 -- a function literal whose body waits for the end of its full expression, with the id of its function, its type, and
 -- what is declared in the scope of its parameters
 pub record Waiting : Type 0 where
-  pub use : Use
+  pub evaluation : Use
   pub id : ℕ
   pub literal : syntax.Expr
   pub type : CType
