@@ -6,7 +6,7 @@ use Rattle.model_types.specs.Types.{CType}
 use Rattle.model_core.specs.Core as unit
 
 -- an object, with its value where it is a `constexpr` one; a value; a function, and whether it is a bare name; or the
--- function that a pointer's value points to
+-- function that a pointer points to
 pub data Meaning : Type 0 where
   a_place : (object : unit.Lvalue) (known : Option ℤ) → Meaning
   a_value : (value : unit.Expr) → Meaning
