@@ -1,3 +1,11 @@
 pub mod State
 pub mod Meanings
 pub mod Parts
+pub mod FaultOrder
+pub mod DeclarationContexts
+pub mod Words
+pub mod TypeKeywords
+pub mod Qualified
+pub mod SpecifierWords
+pub mod SpecifierTypes
+pub mod Tags
