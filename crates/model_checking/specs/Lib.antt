@@ -2,6 +2,7 @@ pub mod State
 pub mod Meanings
 pub mod Parts
 pub mod FaultOrder
+pub mod FaultsBeside
 pub mod DeclarationContexts
 pub mod Words
 pub mod TypeKeywords
@@ -9,3 +10,9 @@ pub mod Qualified
 pub mod SpecifierWords
 pub mod SpecifierTypes
 pub mod Tags
+pub mod LaterForms
+pub mod OwnName
+pub mod DeclaratorNames
+pub mod Structures
+pub mod Enumerations
+pub mod Assertions

@@ -45,7 +45,7 @@ mutual
   -- doesn't fill an array; braces; or the first fault, behind which nothing follows
   pub data Given : Type 0 where
     a_value : (value : unit.Expr) (first : Place) (later : Option Fault) → Given
-    a_text : (bytes : List ℕ) (value : unit.Expr) (first : Place) → Given
+    a_text : (id : ℕ) (bytes : List ℕ) (value : unit.Expr) (first : Place) → Given
     in_braces : (items : GivenItems) (place : Place) → Given
     faulty : (fault : Fault) (first : Place) → Given
 

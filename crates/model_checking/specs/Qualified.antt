@@ -10,7 +10,7 @@ use Rattle.model_core.specs.TypedParts.{is_object_pointer}
 use Rattle.model_grammar.specs.declared.syntax.Qualifier.{Qualifier}
 use Rattle.model_grammar.specs.declared.syntax.QualifierWord.{QualifierWord}
 use Rattle.model_grammar.specs.declared.syntax.QualifierWord.TheVariants.{Const, Restrict, Owner, View, Opt}
-use Rattle.model_checking.specs.FaultOrder.{fault_at}
+use Rattle.model_checking.specs.FaultsBeside.{fault_at}
 
 abbrev pub with_qualifier : QualifierWord → Quals → Quals
 with_qualifier Const quals = record quals { has_const = true }

@@ -13,7 +13,7 @@ use Rattle.model_grammar.specs.declared.syntax.TypeofWord.TheVariants.{Typeof, T
 use Rattle.model_grammar.specs.SyntaxForms as syntax
 use Rattle.model_checking.specs.State.{State, Answer, gives, breaks, unless, then_do, with_state}
 use Rattle.model_checking.specs.Parts.{Specified}
-use Rattle.model_checking.specs.FaultOrder.{or_fault}
+use Rattle.model_checking.specs.FaultsBeside.{with_fault}
 use Rattle.model_checking.specs.DeclarationContexts.{Context}
 use Rattle.model_checking.specs.Words.{Word, words_of, storage_of, type_words, qualifiers_of}
 use Rattle.model_checking.specs.TypeKeywords.{type_by_words}
@@ -58,4 +58,4 @@ specified given words = specified_by words (type_or_words given words)
 -- the whole of a list: its words, beside what its specifiers gave one after another, or their first fault
 abbrev pub specifiers : Context → syntax.Specs → Answer (Option CType) → Answer Specified
 specifiers context specs parts =
-    or_fault (words_fault context specs) (then_do parts (λ given s. with_state (specified given (words_of specs)) s))
+    with_fault (words_fault context specs) (then_do parts (λ given s. with_state (specified given (words_of specs)) s))

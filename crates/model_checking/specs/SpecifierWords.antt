@@ -8,7 +8,7 @@ use Rattle.model_core.specs.CoreTypes.{no_quals}
 use Rattle.model_grammar.specs.declared.syntax.StorageWord.{StorageWord}
 use Rattle.model_grammar.specs.declared.syntax.StorageWord.TheVariants.{Typedef, Extern, Static, Auto, Register, Constexpr}
 use Rattle.model_grammar.specs.SyntaxForms as syntax
-use Rattle.model_checking.specs.FaultOrder.{first_of_faults, fault_at}
+use Rattle.model_checking.specs.FaultsBeside.{first_of_faults, fault_at}
 use Rattle.model_checking.specs.DeclarationContexts.{Context, takes_word}
 use Rattle.model_checking.specs.Words.{Word, a_storage_word, a_function_word, a_type_word, a_tagged_type, a_named_type, a_qualifier, words_of, place_of_word, is_static_word, is_auto_word, is_inline_word, is_type_specifier, has_type_specifier, is_named_type, is_whole_type, type_words, qualifiers_of, place_of_first}
 use Rattle.model_checking.specs.TypeKeywords.{type_by_words}

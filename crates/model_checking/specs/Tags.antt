@@ -81,21 +81,3 @@ struct_by None name place s = new_struct name false place s
 -- `struct` and a tag without braces
 abbrev pub struct_tag : (is_lone : Bool) → Name → (place : Place) → State → Answer CType
 struct_tag is_lone name place s = struct_by (tag_found is_lone name s) name place s
-
--- ---- enumerations: one without a fixed type is declared by its braces alone
-
-abbrev pub enumeration : Basic → Place → CType
-enumeration basic place = plain (Enum basic place.order)
-
-abbrev pub enum_by : Option Declared → Name → Option Basic → Place → State → Answer CType
-enum_by (Some d) name fixed place s = type_of_kind false name d.latest.ty s
-enum_by None name None place s = breaks name.place 5
-enum_by None name (Some basic) place s = declared_tag (tag_declaration name (enumeration basic place) false) s
-
--- `enum` and a tag, perhaps with a fixed type, without braces
-abbrev pub is_own : (is_lone : Bool) → Option Basic → Bool
-is_own is_lone None = false
-is_own is_lone (Some basic) = is_lone
-
-abbrev pub enum_tag : (is_lone : Bool) → Name → (fixed : Option Basic) → (place : Place) → State → Answer CType
-enum_tag is_lone name fixed place s = enum_by (tag_found (is_own is_lone fixed) name s) name fixed place s
