@@ -2,6 +2,7 @@
 -- (ISO/IEC 9899:2024, 6.5, 6.7): one function for each kind of tree, from the left to the right. The rules of a form are
 -- functions of its parts; those that name its left part alone stand before its right part.
 use Rattle.std.specs.Prelude.{ℕ, ℤ, Bool, true, false, List, [], ◌∷◌, ◌++◌, Option, Some, None}
+use Rattle.cake_base.specs.declared.places.Place.{Place}
 use Rattle.model_types.specs.declared.numbers.Basic.{Basic}
 use Rattle.model_types.specs.Structures.{Member}
 use Rattle.model_types.specs.Types.{CType, Types}
@@ -27,7 +28,7 @@ use Rattle.model_checking.specs.SizeRules.{size_of_operand, size_of_name, alignm
 use Rattle.model_checking.specs.CompoundLiterals.{literal_fault, compound_literal}
 use Rattle.model_checking.specs.DeclarationContexts.{Context, of_parameter, of_member, of_type_name}
 use Rattle.model_checking.specs.SpecifierTypes.{specifiers, typeof_type, typedef_type}
-use Rattle.model_checking.specs.Tags.{struct_tag, struct_begun, member as next_member, struct_completed}
+use Rattle.model_checking.specs.Structures.{struct_tag, struct_begun, member as next_member, struct_completed}
 use Rattle.model_checking.specs.Enumerations.{fixed_type, enum_tag, enum_begun, Enumeration, enumerator}
 use Rattle.model_checking.specs.DeclaratorTypes.{Derivation, an_array, with_pointers, declarator}
 use Rattle.model_checking.specs.ParameterDeclarations.{begin_parameters, parameter, function_derivation}
@@ -146,9 +147,9 @@ abbrev mutual
   type_in u lone s (syntax.Struct tag members place) =
       then_do (struct_begun tag members place s) (λ id s.
       then_do (members_in u [] s members) (λ ms s. given_type (struct_completed id place ms s)))
-  type_in u lone s (syntax.EnumTag tag fixed place) = given_type (enum_tag lone tag place s (fixed_in u s fixed))
+  type_in u lone s (syntax.EnumTag tag fixed place) = given_type (enum_tag lone tag place s (fixed_in u s place fixed))
   type_in u lone s (syntax.Enum tag fixed enumerators place) =
-      then_do (enum_begun tag place s (fixed_in u s fixed)) (λ e s. enumerators_in u e None s enumerators)
+      then_do (enum_begun tag place s (fixed_in u s place fixed)) (λ e s. enumerators_in u e None s enumerators)
   type_in u lone s (syntax.TypedefName name) = given_type (typedef_type name s)
   type_in u lone s (syntax.TypeofExpr word e place) =
       then_do (expr Unevaluated s e) (λ m s. gives (Some (typeof_type word (meaning_type m))) s)
@@ -156,10 +157,9 @@ abbrev mutual
       then_do (type_name Unevaluated s name) (λ d s. gives (Some (typeof_type word (declared_type d))) s)
 
   -- the type behind the `:` of an enumeration
-  pub fixed_in : Use → State → syntax.MaybeSpecs → Answer (Option Basic)
-  fixed_in u s syntax.none_of_specs = gives None s
-  fixed_in u s (syntax.some_specs specs) =
-      then_do (fixed_type specs (specifiers of_type_name specs (types_in u false s specs))) (λ basic s. gives (Some basic) s)
+  pub fixed_in : Use → State → (place : Place) → syntax.MaybeSpecs → Answer (Option Basic)
+  fixed_in u s place syntax.none_of_specs = gives None s
+  fixed_in u s place (syntax.some_specs specs) = fixed_type place specs (specifiers of_type_name specs (types_in u false s specs))
 
   -- ---- structures and enumerations
 
@@ -177,7 +177,7 @@ abbrev mutual
   pub members_declared : Use → Specified → List Member → State → syntax.Declarators → Answer (List Member)
   members_declared u given ms s syntax.no_declarators = gives ms s
   members_declared u given ms s (syntax.more_declarators first others) =
-      then_do (next_member u ms given first s (declarator given (named_first first) first s (derivations u s first))) (λ ms s.
+      then_do (next_member u ms first (declarator given (named_first first) first s (derivations u s first))) (λ ms s.
       members_declared u given ms s others)
 
   -- the enumerators of an enumeration behind one of a value; its type

@@ -53,12 +53,12 @@ in_own_scope span around inside =
 abbrev pub span_of : syntax.Statement → Span
 span_of (syntax.ExpressionStatement value span) = span
 span_of (syntax.CompoundStatement body span) = span
-span_of (syntax.If declaration condition first second span) = span
+span_of (syntax.If _ condition first second span) = span
 span_of (syntax.Switch value body span) = span
 span_of (syntax.While condition body span) = span
 span_of (syntax.DoWhile body condition span) = span
 span_of (syntax.For first condition step body span) = span
-span_of (syntax.ForDeclaration declaration condition step body span) = span
+span_of (syntax.ForDeclaration _ condition step body span) = span
 span_of (syntax.Break place span) = span
 span_of (syntax.Continue place span) = span
 span_of (syntax.Return value place span) = span
