@@ -16,3 +16,6 @@ pub mod DeclaratorNames
 pub mod Structures
 pub mod Enumerations
 pub mod Assertions
+pub mod Derivations
+pub mod DeclaratorTypes
+pub mod ParameterDeclarations
