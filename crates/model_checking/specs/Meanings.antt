@@ -6,11 +6,7 @@ use Rattle.model_types.specs.Types.{CType}
 use Rattle.model_core.specs.Core as unit
 
 -- an object, with its value where it is a `constexpr` one; a value; a function, and whether it is a bare name; or the
-<<<<<<< HEAD
--- function that a pointer's value points to
-=======
 -- function that a pointer points to
->>>>>>> fd59e213633928f91578dfa7fa911f9ad84c1e7f
 pub data Meaning : Type 0 where
   a_place : (object : unit.Lvalue) (known : Option ℤ) → Meaning
   a_value : (value : unit.Expr) → Meaning
