@@ -26,14 +26,14 @@ use Rattle.model_checking.specs.Tags.{tag_found, tag_here, tag_declaration, decl
 
 -- ---- the fixed type: an integer type, of another enumeration its underlying one
 
-abbrev pub fixed_by : Option CType → Place → State → Answer (Option Basic)
+abbrev pub fixed_by : Option CType → (first : Place) → State → Answer Basic
 fixed_by None first s = breaks first 27
-fixed_by (Some (t.typed (t.Integer basic) quals)) first s = gives (Some basic) s
-fixed_by (Some (t.typed (t.Enum basic order) quals)) first s = gives (Some basic) s
+fixed_by (Some (t.typed (t.Integer basic) quals)) first s = gives basic s
+fixed_by (Some (t.typed (t.Enum basic order) quals)) first s = gives basic s
 fixed_by (Some (t.typed form quals)) first s = breaks first 27
 
 -- C27 at the first token of the type; `place` is that of the word `enum`
-abbrev pub fixed_type : (place : Place) → syntax.Specs → Answer Specified → Answer (Option Basic)
+abbrev pub fixed_type : (place : Place) → syntax.Specs → Answer Specified → Answer Basic
 fixed_type place specs answer = then_do answer (λ given s. fixed_by given.type (place_or (specs_first specs) place) s)
 
 -- the type of an enumeration, which is told apart by its word `enum`

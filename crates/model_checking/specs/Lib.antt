@@ -11,6 +11,8 @@ pub mod ConstantValues
 pub mod Conversion
 pub mod DeclarationContexts
 pub mod DeclaratorNames
+pub mod DeclaratorTypes
+pub mod Derivations
 pub mod Elaborated
 pub mod Enumerations
 pub mod FaultOrder
@@ -30,6 +32,7 @@ pub mod Meanings
 pub mod MemberRules
 pub mod NamedObjects
 pub mod OwnName
+pub mod ParameterDeclarations
 pub mod Parts
 pub mod Placing
 pub mod PointerRules
