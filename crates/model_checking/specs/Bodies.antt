@@ -9,8 +9,8 @@ use Rattle.model_scopes.specs.Declarations.{Declaration}
 use Rattle.model_grammar.specs.SyntaxForms as syntax
 use Rattle.model_core.specs.CoreTypes.{int_type, result_of_form}
 use Rattle.model_core.specs.Core as unit
-use Rattle.model_checking.specs.State.{Use, Evaluated, Unevaluated, State, Waiting, Body, Both, Answer, Reached, gives, then_do, note_type}
-use Rattle.model_checking.specs.ParameterDeclarations.{is_parameter, declared_parameter}
+use Rattle.model_checking.specs.State.{Use, Evaluated, Unevaluated, State, Waiting, Body, Both, Answer, Reached, gives, then_do, in_scopes, note_type}
+use Rattle.model_checking.specs.ParameterDeclarations.{is_parameter, declare_entry}
 use Rattle.model_checking.specs.Reading.{Ends, both, with_both, leaves_out_since}
 use Rattle.model_checking.specs.Scoping.{Scoped, entered, closed}
 use Rattle.model_checking.specs.Surroundings.{in_function}
@@ -30,7 +30,7 @@ with_parameter false id ids = ids
 abbrev declared_again : Use → List Declaration → State → Both (List ℕ)
 declared_again u [] s = both [] s
 declared_again u (d ∷ ds) s =
-    with_both (declared_again u ds (note_parameter u d (declared_parameter d s))) (λ ids t. both (with_parameter (is_parameter d) s.scopes.ids ids) t)
+    with_both (declared_again u ds (note_parameter u d (in_scopes (declare_entry d s.scopes) s))) (λ ids t. both (with_parameter (is_parameter d) s.scopes.ids ids) t)
 
 -- ---- a body
 

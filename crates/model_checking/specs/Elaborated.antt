@@ -30,7 +30,8 @@ use Rattle.model_checking.specs.DeclarationContexts.{Context, of_parameter, of_m
 use Rattle.model_checking.specs.SpecifierTypes.{specifiers, typeof_type, typedef_type}
 use Rattle.model_checking.specs.Structures.{struct_tag, struct_begun, member as next_member, struct_completed}
 use Rattle.model_checking.specs.Enumerations.{fixed_type, enum_tag, enum_begun, Enumeration, enumerator}
-use Rattle.model_checking.specs.DeclaratorTypes.{Derivation, an_array, with_pointers, declarator}
+use Rattle.model_checking.specs.Derivations.{Derivation, with_pointers}
+use Rattle.model_checking.specs.DeclaratorTypes.{declarator}
 use Rattle.model_checking.specs.ParameterDeclarations.{begin_parameters, parameter, function_derivation}
 use Rattle.model_checking.specs.Reading.{Ends, waits, both, with_both, as_operand, as_constant, asserted_of, count_of, type_name_place, first_or, named_first, declared_type, note_declared, or_type, given_type, an_array_of, is_alone, with_type, without_parameters, function_literal, single_given, element_step, steps_behind, item_given, braces_place}
 
@@ -159,7 +160,8 @@ abbrev mutual
   -- the type behind the `:` of an enumeration
   pub fixed_in : Use → State → (place : Place) → syntax.MaybeSpecs → Answer (Option Basic)
   fixed_in u s place syntax.none_of_specs = gives None s
-  fixed_in u s place (syntax.some_specs specs) = fixed_type place specs (specifiers of_type_name specs (types_in u false s specs))
+  fixed_in u s place (syntax.some_specs specs) =
+      then_do (fixed_type place specs (specifiers of_type_name specs (types_in u false s specs))) (λ basic s. gives (Some basic) s)
 
   -- ---- structures and enumerations
 
@@ -207,14 +209,14 @@ abbrev mutual
   suffix_in u s (syntax.ArraySuffix length place) = an_array_of length (constant u s length)
   suffix_in u s (syntax.FunctionSuffix parameters is_variadic place) =
       without_parameters s
-      (function_derivation is_variadic (parameters_in u (is_alone parameters is_variadic) (begin_parameters false s) parameters))
+      (function_derivation is_variadic (parameters_in u (is_alone parameters is_variadic) (begin_parameters s) parameters))
 
   -- the types of parameters, which are declared
   pub parameters_in : Use → (is_alone : Bool) → State → syntax.Parameters → Answer (List CType)
   parameters_in u alone s syntax.no_parameters = gives [] s
   parameters_in u alone s (syntax.more_parameters (syntax.parameter specs d first) others) =
       then_do (specifiers of_parameter specs (types_in u false s specs)) (λ given s.
-      then_do (parameter alone given (first_or first d) s (declarator given (first_or first d) d s (derivations u s d))) (λ t s.
+      then_do (parameter alone d s (declarator given (first_or first d) d s (derivations u s d))) (λ t s.
       then_do (parameters_in u false s others) (λ ts s. gives (with_type t ts) s)))
 
   -- ---- initializers; what is done at the end of each full expression is given

@@ -18,7 +18,7 @@ use Rattle.model_checking.specs.Marks.{mark_of}
 use Rattle.model_checking.specs.MadeCore.{operand, used_fault, value_of}
 use Rattle.model_checking.specs.ConstantValues.{constant_of}
 use Rattle.model_checking.specs.Assertions.{assertion_fault}
-use Rattle.model_checking.specs.DeclaratorTypes.{Derivation, an_array, array_length}
+use Rattle.model_checking.specs.Derivations.{Derivation, an_array, array_length}
 use Rattle.model_checking.specs.Declaring.{definition_fault}
 
 -- ---- operands and constants
