@@ -15,7 +15,7 @@ use Rattle.model_types.specs.Layout.{is_complete}
 use Rattle.model_types.specs.Conversions.{common}
 use Rattle.model_grammar.specs.declared.syntax.PrefixOp.{PrefixOp}
 use Rattle.model_grammar.specs.declared.syntax.PrefixOp.TheVariants as prefix
-use Rattle.model_core.specs.CoreTypes.{unqualified, object_type, is_pointer}
+use Rattle.model_core.specs.CoreTypes.{unqualified, object_type, is_pointer, is_void}
 use Rattle.model_core.specs.SameTypes.{is_integer}
 use Rattle.model_core.specs.TypedParts.{is_array, is_scalar, is_function_pointer}
 use Rattle.model_core.specs.TypedExpr.{object_form}
@@ -28,11 +28,12 @@ use Rattle.model_checking.specs.MadeCore.{value_of, operand, operand_form, promo
 use Rattle.model_checking.specs.HeldValues.{is_held}
 use Rattle.model_checking.specs.PointerRules.{points_to_object, moved_fault}
 
--- ---- `&`: C11 where the operand is neither an object nor a function; an array of a structure's value is none
+-- ---- `&`: C11 where the operand is neither an object nor a function; an array of a structure's value is none, and an
+-- lvalue isn't of type void
 
 abbrev pub address : Mark → (first : Place) → Meaning → Result Meaning Fault
 address mark first (a_place object known) =
-    unless (wants (not (is_held object)) first 11) (Ok (a_value (unit.Address Written object mark)))
+    unless (wants (not (is_held object) && not (is_void (object_type object))) first 11) (Ok (a_value (unit.Address Written object mark)))
 address mark first (a_value value) = breaks first 11
 address mark first (a_function id type by_name at) = Ok (a_value (unit.FunctionRef id type false at))
 address mark first (a_target pointer) = Ok (a_value pointer)
