@@ -1,0 +1,10 @@
+pub mod InitializerParts
+pub mod InitializerLists
+pub mod InitializerDesignators
+pub mod InitializerStrings
+pub mod InitializerLengths
+pub mod InitializerStructures
+pub mod InitializerStatic
+pub mod InitializerFaults
+pub mod InitializerDesignated
+pub mod InitializerOrder

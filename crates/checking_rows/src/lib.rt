@@ -1,0 +1,12 @@
+//! Worked examples of checking: each function does nothing, and its contract is what the definitions answer.
+#![tactic(auto)]
+
+pub mod initializer_designated;
+pub mod initializer_designators;
+pub mod initializer_faults;
+pub mod initializer_lengths;
+pub mod initializer_lists;
+pub mod initializer_order;
+pub mod initializer_static;
+pub mod initializer_strings;
+pub mod initializer_structures;
