@@ -46,3 +46,9 @@ pub mod TypeKeywords
 pub mod UnaryRules
 pub mod Ways
 pub mod Words
+pub mod DeclaredNames
+pub mod DeclaredNameRules
+pub mod Declaring
+pub mod DeclarationSpecifiers
+pub mod Inference
+pub mod Settling
