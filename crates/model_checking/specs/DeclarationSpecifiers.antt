@@ -1,12 +1,11 @@
 -- The specifiers of a whole declaration (ISO/IEC 9899:2024, 6.7.2): what its declarators show of functions counts for the
 -- words of storage, which stand before them.
-use Rattle.std.specs.Prelude.{ℕ, Bool, true, false, ◌&&◌, ◌||◌, not, List, [], ◌∷◌, Option, Some, None, Result, Ok, Err, if◌then◌else◌}
+use Rattle.std.specs.Prelude.{Bool, true, false, ◌&&◌, ◌||◌, not, List, Option, None, Ok, Err, if◌then◌else◌}
 use Rattle.std.specs.List.{list_any}
-use Rattle.cake_base.specs.declared.places.Place.{Place}
 use Rattle.cake_base.specs.declared.rules.Fault.{Fault}
 use Rattle.model_types.specs.Types.{CType}
 use Rattle.model_grammar.specs.SyntaxForms as syntax
-use Rattle.model_checking.specs.State.{State, Answer}
+use Rattle.model_checking.specs.State.{Answer}
 use Rattle.model_checking.specs.Parts.{Specified}
 use Rattle.model_checking.specs.FaultsBeside.{fault_at, with_fault}
 use Rattle.model_checking.specs.DeclarationContexts.{Context, is_inner}

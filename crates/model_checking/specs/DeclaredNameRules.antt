@@ -1,9 +1,9 @@
 -- The constraints at the name that a declarator declares (ISO/IEC 9899:2024, 6.2.2, 6.7, 6.9.1, 6.9.2, 5.1.2.3.2): the
 -- smallest broken rule. Those that need no type are asked whether or not the declarator is faulty.
-use Rattle.std.specs.Prelude.{ℕ, Bool, true, false, ◌&&◌, ◌||◌, not, List, [], ◌∷◌, Option, Some, None, is_some, option_map, codes, if◌then◌else◌}
+use Rattle.std.specs.Prelude.{ℕ, Bool, false, ◌&&◌, ◌||◌, not, List, Option, Some, None, is_some, option_map, codes, if◌then◌else◌}
 use Rattle.cake_base.specs.declared.places.Place.{Place}
 use Rattle.cake_base.specs.declared.rules.Fault.{Fault}
-use Rattle.model_types.specs.declared.numbers.Basic.TheVariants.{Int, Char}
+use Rattle.model_types.specs.declared.numbers.Basic.TheVariants.{Char}
 use Rattle.model_types.specs.Texts.{same_text}
 use Rattle.model_types.specs.Types.{CType, Integer, Function, Form, Types, no_types, more_types, form_of_type}
 use Rattle.model_types.specs.Structures.{Structure}
@@ -17,7 +17,7 @@ use Rattle.model_grammar.specs.declared.syntax.Name.{Name}
 use Rattle.model_grammar.specs.SyntaxForms as syntax
 use Rattle.model_checking.specs.FaultsBeside.{first_of_faults, fault_if}
 use Rattle.model_checking.specs.Derivations.{is_function_declarator, is_variadic_declarator}
-use Rattle.model_checking.specs.DeclaredNames.{Setting, Ending, gives_value, is_body, declaration, untyped_declaration}
+use Rattle.model_checking.specs.DeclaredNames.{Setting, gives_value, is_body, declaration, untyped_declaration}
 
 -- ---- C37: a body follows no function declarator; a parameter of a definition is void or incomplete
 

@@ -1,7 +1,6 @@
 -- What a declarator declares under its name (ISO/IEC 9899:2024, 6.2.2, 6.2.4, 6.7.1, 6.9.2, 6.9.3): an object, a function or
 -- a type; with which linkage; whether it defines it; and for an object, whether its storage is automatic.
 use Rattle.std.specs.Prelude.{ℕ, Bool, true, false, ◌&&◌, ◌||◌, not, List, [], ◌∷◌, Option, Some, None, if◌then◌else◌}
-use Rattle.cake_base.specs.declared.places.Place.{Place}
 use Rattle.model_types.specs.Types.{CType, form_of_type}
 use Rattle.model_core.specs.CoreTypes.{int_type}
 use Rattle.model_core.specs.TypedParts.{is_function}

@@ -1,13 +1,12 @@
 -- One declarator of a declaration, or of the definition of a function, bound to what it declares (ISO/IEC 9899:2024, 6.7,
 -- 6.9.2, 6.9.3): before its initializer is read.
-use Rattle.std.specs.Prelude.{ℕ, Bool, true, false, ◌&&◌, ◌||◌, not, List, [], ◌∷◌, ◌++◌, Option, Some, None, Result, Ok, Err, if◌then◌else◌}
+use Rattle.std.specs.Prelude.{ℕ, Bool, true, false, ◌&&◌, ◌||◌, not, List, [], ◌∷◌, ◌++◌, Option, Some, None}
 use Rattle.cake_base.specs.declared.places.Place.{Place}
 use Rattle.cake_base.specs.declared.rules.Fault.{Fault}
 use Rattle.model_types.specs.Types as t
 use Rattle.model_types.specs.Types.{CType, typed, form_of_type}
 use Rattle.model_types.specs.Structures.{Structure}
 use Rattle.model_types.specs.Layout.{is_complete}
-use Rattle.model_core.specs.TypedParts.{is_function}
 use Rattle.model_scopes.specs.declared.declarations.Kind.{Kind}
 use Rattle.model_scopes.specs.declared.declarations.Kind.TheVariants.{Object, Function, TypeName, Enumerator, Tag}
 use Rattle.model_scopes.specs.Declarations.{Declaration}
@@ -16,7 +15,7 @@ use Rattle.model_scopes.specs.Declaring.{id_of, declare, note_initialized}
 use Rattle.model_grammar.specs.declared.syntax.Name.{Name}
 use Rattle.model_grammar.specs.SyntaxForms as syntax
 use Rattle.model_checking.specs.State.{Use, State, Answer, gives, breaks, unless, then_do, in_scopes, note_type}
-use Rattle.model_checking.specs.Parts.{Specified, Declared, Storage}
+use Rattle.model_checking.specs.Parts.{Specified, Declared}
 use Rattle.model_checking.specs.FaultsBeside.{first_of_faults, fault_if, with_fault}
 use Rattle.model_checking.specs.DeclarationContexts.{Context, of_definition}
 use Rattle.model_checking.specs.DeclaratorNames.{declarator_name, rule_at}

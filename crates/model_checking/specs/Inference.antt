@@ -1,12 +1,11 @@
 -- A declaration whose type is to be inferred (ISO/IEC 9899:2024, 6.7.10): one plain name with an initializer without
 -- braces, from whose value it has its type.
-use Rattle.std.specs.Prelude.{ℕ, Bool, true, false, not, List, [], ◌∷◌, Option, Some, None, Result, Ok, Err, if◌then◌else◌}
+use Rattle.std.specs.Prelude.{Bool, true, false, not, [], Option, Some, None, if◌then◌else◌}
 use Rattle.std.specs.Option.{unwrap_or}
 use Rattle.cake_base.specs.declared.places.Place.{Place}
 use Rattle.cake_base.specs.declared.rules.Fault.{Fault}
 use Rattle.model_types.specs.Types.{CType}
 use Rattle.model_core.specs.CoreTypes.{unqualified}
-use Rattle.model_grammar.specs.declared.syntax.Name.{Name}
 use Rattle.model_grammar.specs.SyntaxForms as syntax
 use Rattle.c_tree.specs.SyntaxPlaces.{declarator_first}
 use Rattle.model_checking.specs.State.{Use, State, Answer, unless}

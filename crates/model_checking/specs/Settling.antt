@@ -1,13 +1,13 @@
 -- What a declared object has behind its initializer (ISO/IEC 9899:2024, 6.7.2, 6.7.11): its type with the length of an
 -- array, its value where it is a `constexpr` object, and its initial values.
-use Rattle.std.specs.Prelude.{ℕ, ℤ, pos, Bool, true, false, ◌&&◌, ◌||◌, not, List, [], ◌∷◌, ◌++◌, Option, Some, None, Result, Ok, Err, if◌then◌else◌}
+use Rattle.std.specs.Prelude.{ℤ, pos, Bool, true, false, ◌&&◌, ◌||◌, not, List, [], ◌∷◌, ◌++◌, Option, Some, None, Err, if◌then◌else◌}
 use Rattle.cake_base.specs.declared.places.Place.{Place}
 use Rattle.cake_base.specs.declared.rules.Fault.{Fault}
 use Rattle.model_types.specs.declared.numbers.Basic.TheVariants.{Int}
 use Rattle.model_types.specs.declared.marks.Mark.{Mark}
 use Rattle.model_types.specs.Operations.{fits}
 use Rattle.model_types.specs.Types.{CType, Form, form_of_type}
-use Rattle.model_core.specs.CoreTypes.{basic_of, is_pointer}
+use Rattle.model_core.specs.CoreTypes.{basic_of}
 use Rattle.model_core.specs.SameTypes.{is_integer, is_null_constant, integer_constant}
 use Rattle.model_core.specs.StaticValues.{is_null_pointer}
 use Rattle.model_core.specs.TypedParts.{is_scalar}
@@ -16,7 +16,7 @@ use Rattle.model_scopes.specs.declared.declarations.Kind.{Kind}
 use Rattle.model_scopes.specs.declared.declarations.Kind.TheVariants.{Object, Function, TypeName, Enumerator, Tag}
 use Rattle.model_scopes.specs.Declarations.{Value}
 use Rattle.model_scopes.specs.Declaring.{settle}
-use Rattle.model_checking.specs.State.{State, Valued, Answer, gives, then_do, in_scopes}
+use Rattle.model_checking.specs.State.{State, Answer, gives, then_do, in_scopes}
 use Rattle.model_checking.specs.Parts.{Given, a_value, a_text, in_braces, faulty, GivenStep, to_element, to_no_element, to_member, faulty_index, GivenItems, no_given, more_given}
 use Rattle.model_checking.specs.FaultsBeside.{fault_if, with_fault}
 use Rattle.model_checking.specs.Placing.{given_first}
