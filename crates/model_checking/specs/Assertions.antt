@@ -1,5 +1,5 @@
 -- `static_assert` (ISO/IEC 9899:2024, 6.7.12): the value of its constant expression isn't zero.
-use Rattle.std.specs.Prelude.{ℕ, ℤ, Option}
+use Rattle.std.specs.Prelude.{ℤ, Option}
 use Rattle.cake_base.specs.declared.places.Place.{Place}
 use Rattle.cake_base.specs.declared.rules.Fault.{Fault}
 use Rattle.model_core.specs.SameTypes.{is_zero}

@@ -1,5 +1,5 @@
 -- The name that a declarator declares (ISO/IEC 9899:2024, 6.7.7.1), and a rule that is broken at it.
-use Rattle.std.specs.Prelude.{ℕ, List, Option, Some, None, option_map}
+use Rattle.std.specs.Prelude.{ℕ, Option, Some, None, option_map}
 use Rattle.cake_base.specs.declared.rules.Fault.{Fault}
 use Rattle.model_scopes.specs.DeclarationRules.{constraint_at}
 use Rattle.model_grammar.specs.declared.syntax.Name.{Name}

@@ -1,6 +1,6 @@
 -- The type of a declarator (ISO/IEC 9899:2024, 6.7.7.2 to 6.7.7.4): its steps, the last one first, from the type of the
 -- specifiers. Each constraint is asked where the type that it is about is known, whether or not other parts are faulty.
-use Rattle.std.specs.Prelude.{ℕ, Bool, true, false, ◌||◌, not, List, [], ◌∷◌, Option, Some, None, option_map, Result, Ok, Err, if◌then◌else◌}
+use Rattle.std.specs.Prelude.{ℕ, not, List, [], ◌∷◌, Option, Some, None, option_map, Ok, Err, if◌then◌else◌}
 use Rattle.cake_base.specs.declared.places.Place.{Place}
 use Rattle.cake_base.specs.declared.rules.Fault.{Fault}
 use Rattle.model_types.specs.Types.{CType, Array, Function, types, form_of_type}
@@ -9,7 +9,6 @@ use Rattle.model_types.specs.Layout.{is_complete}
 use Rattle.model_core.specs.CoreTypes.{plain, pointer_to}
 use Rattle.model_core.specs.TypedParts.{is_function}
 use Rattle.model_core.specs.PossibleTypes.{length_fits, is_value_form}
-use Rattle.model_scopes.specs.Declarations.{Declaration}
 use Rattle.model_scopes.specs.DeclarationRules.{constraint_at}
 use Rattle.model_grammar.specs.declared.syntax.Name.{Name}
 use Rattle.model_grammar.specs.declared.syntax.Qualifier.{Qualifier}

@@ -1,6 +1,6 @@
 -- What a declarator derives from the type of its specifiers, step by step from its name outwards (ISO/IEC 9899:2024,
 -- 6.7.7): of `*a[3]`, an array, then a pointer.
-use Rattle.std.specs.Prelude.{ℕ, ℤ, pos, int_lt, nat_abs, Bool, true, false, List, [], ◌∷◌, ◌++◌, Option, Some, None, Result, Ok, Err, if◌then◌else◌}
+use Rattle.std.specs.Prelude.{ℕ, ℤ, pos, int_lt, nat_abs, Bool, true, false, List, [], ◌∷◌, ◌++◌, Option, Some, None, Result, Ok, if◌then◌else◌}
 use Rattle.cake_base.specs.declared.places.Place.{Place}
 use Rattle.cake_base.specs.declared.rules.Fault.{Fault}
 use Rattle.model_types.specs.Types.{CType}

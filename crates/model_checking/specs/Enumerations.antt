@@ -1,5 +1,5 @@
 -- Enumerations (ISO/IEC 9899:2024, 6.7.3.3, 6.7.3.4): by a tag, by their braces, and their enumerators one by one.
-use Rattle.std.specs.Prelude.{ℕ, ℤ, pos, ◌+ℤ◌, Bool, true, false, ◌||◌, not, List, Option, Some, None, is_some, Result, Ok, Err, if◌then◌else◌}
+use Rattle.std.specs.Prelude.{ℕ, ℤ, pos, ◌+ℤ◌, Bool, true, false, not, Option, Some, None, is_some, Ok, Err, if◌then◌else◌}
 use Rattle.std.specs.Option.{unwrap_or}
 use Rattle.cake_base.specs.declared.places.Place.{Place}
 use Rattle.cake_base.specs.declared.rules.Fault.{Fault}
@@ -11,7 +11,7 @@ use Rattle.model_types.specs.Types.{CType, form_of_type}
 use Rattle.model_core.specs.CoreTypes.{plain, int_type, basic_of}
 use Rattle.model_scopes.specs.declared.declarations.Kind.TheVariants.{Enumerator}
 use Rattle.model_scopes.specs.declared.declarations.Linkage.TheVariants.{Absent}
-use Rattle.model_scopes.specs.Declarations.{Declaration, Value}
+use Rattle.model_scopes.specs.Declarations.{Declaration}
 use Rattle.model_scopes.specs.Scopes.{Declared}
 use Rattle.model_scopes.specs.DeclarationRules.{has_prefix, broken_rule, is_struct_form}
 use Rattle.model_scopes.specs.Declaring.{place_or, declare}

@@ -55,3 +55,9 @@ pub mod UnaryRules
 pub mod Units
 pub mod Ways
 pub mod Words
+pub mod DeclaredNames
+pub mod DeclaredNameRules
+pub mod Declaring
+pub mod DeclarationSpecifiers
+pub mod Inference
+pub mod Settling

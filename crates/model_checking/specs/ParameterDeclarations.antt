@@ -1,13 +1,12 @@
 -- Parameters (ISO/IEC 9899:2024, 6.7.7.4): each is declared in the scope of their list, an array or a function as a
 -- pointer. One without a name is declared without one, so that a list has as many entries of objects as parameters.
-use Rattle.std.specs.Prelude.{ℕ, ◌+◌, nat_eq, Bool, true, false, ◌&&◌, not, List, [], ◌∷◌, ◌++◌, Option, Some, None, if◌then◌else◌}
+use Rattle.std.specs.Prelude.{ℕ, ◌+◌, nat_eq, Bool, true, false, ◌&&◌, List, [], ◌∷◌, ◌++◌, Option, Some, None, if◌then◌else◌}
 use Rattle.std.specs.Option.{unwrap_or}
 use Rattle.cake_base.specs.declared.places.Place.{Place}
-use Rattle.cake_base.specs.declared.rules.Fault.{Fault}
 use Rattle.model_types.specs.Types as t
 use Rattle.model_types.specs.Types.{CType, typed}
 use Rattle.model_types.specs.Compatible.{same_quals}
-use Rattle.model_core.specs.CoreTypes.{no_quals, plain, pointer_to, int_type, is_void}
+use Rattle.model_core.specs.CoreTypes.{no_quals, pointer_to, int_type, is_void}
 use Rattle.model_scopes.specs.declared.declarations.Kind.{Kind}
 use Rattle.model_scopes.specs.declared.declarations.Kind.TheVariants.{Object, Function, TypeName, Enumerator, Tag}
 use Rattle.model_scopes.specs.declared.declarations.Linkage.TheVariants.{Absent}

@@ -1,10 +1,10 @@
 -- Qualifiers put on a type (ISO/IEC 9899:2024, 6.7.4.1), those of ownership among them. An array hands them to its
 -- elements; a function type has none.
-use Rattle.std.specs.Prelude.{ℕ, Bool, true, false, ◌&&◌, ◌||◌, not, List, [], ◌∷◌, Option, Some, None, if◌then◌else◌}
+use Rattle.std.specs.Prelude.{Bool, true, false, ◌&&◌, ◌||◌, not, List, [], ◌∷◌, Option, Some, None, if◌then◌else◌}
 use Rattle.cake_base.specs.declared.places.Place.{Place}
 use Rattle.cake_base.specs.declared.rules.Fault.{Fault}
 use Rattle.model_types.specs.declared.types.Quals.{Quals}
-use Rattle.model_types.specs.Types.{CType, typed, Form, Array, Function}
+use Rattle.model_types.specs.Types.{CType, typed, Array, Function}
 use Rattle.model_core.specs.CoreTypes.{no_quals}
 use Rattle.model_core.specs.TypedParts.{is_object_pointer}
 use Rattle.model_grammar.specs.declared.syntax.Qualifier.{Qualifier}

@@ -1,6 +1,6 @@
 -- The type that a list of specifiers gives (ISO/IEC 9899:2024, 6.7.1, 6.7.3, 6.7.9): that of its keywords, or the one that
 -- its structure, enumeration, tag, typedef name or `typeof` gave, with the qualifiers of the list.
-use Rattle.std.specs.Prelude.{ℕ, Bool, true, false, List, [], ◌∷◌, Option, Some, None, option_map, Result, Ok, Err}
+use Rattle.std.specs.Prelude.{Bool, true, false, List, Option, Some, None, option_map, Result, Ok}
 use Rattle.cake_base.specs.declared.rules.Fault.{Fault}
 use Rattle.model_types.specs.Types.{CType}
 use Rattle.model_core.specs.CoreTypes.{plain, unqualified}

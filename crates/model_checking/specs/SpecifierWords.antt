@@ -1,12 +1,12 @@
 -- The constraints that the words of a list of specifiers break by themselves (ISO/IEC 9899:2024, 6.7.1, 6.7.2, 6.7.3.1,
 -- 6.7.5): they are told before what the list's own parts break behind them.
-use Rattle.std.specs.Prelude.{ℕ, Bool, true, false, ◌&&◌, ◌||◌, not, List, [], ◌∷◌, ◌++◌, Option, Some, None, is_some, if◌then◌else◌}
+use Rattle.std.specs.Prelude.{Bool, true, false, ◌&&◌, ◌||◌, not, List, [], ◌∷◌, ◌++◌, Option, Some, None, is_some, if◌then◌else◌}
 use Rattle.std.specs.List.{list_any}
 use Rattle.cake_base.specs.declared.places.Place.{Place}
 use Rattle.cake_base.specs.declared.rules.Fault.{Fault}
 use Rattle.model_core.specs.CoreTypes.{no_quals}
 use Rattle.model_grammar.specs.declared.syntax.StorageWord.{StorageWord}
-use Rattle.model_grammar.specs.declared.syntax.StorageWord.TheVariants.{Typedef, Extern, Static, Auto, Register, Constexpr}
+use Rattle.model_grammar.specs.declared.syntax.StorageWord.TheVariants.{Extern, Static, Auto, Register, Constexpr}
 use Rattle.model_grammar.specs.SyntaxForms as syntax
 use Rattle.model_checking.specs.FaultsBeside.{first_of_faults, fault_at}
 use Rattle.model_checking.specs.DeclarationContexts.{Context, takes_word}

@@ -3,12 +3,11 @@
 use Rattle.std.specs.Prelude.{ℕ, Bool, true, false, not, List, [], ◌∷◌, ◌++◌, length, Option, Some, None, option_map, if◌then◌else◌}
 use Rattle.std.specs.List.{list_any}
 use Rattle.cake_base.specs.declared.places.Place.{Place}
-use Rattle.cake_base.specs.declared.rules.Fault.{Fault}
 use Rattle.model_types.specs.declared.types.StructId.{StructId}
 use Rattle.model_types.specs.Texts.{same_text}
 use Rattle.model_types.specs.Types as t
 use Rattle.model_types.specs.Types.{CType, form_of_type}
-use Rattle.model_types.specs.Structures.{Member, Structure}
+use Rattle.model_types.specs.Structures.{Member}
 use Rattle.model_types.specs.Layout.{is_complete}
 use Rattle.model_core.specs.CoreTypes.{plain}
 use Rattle.model_core.specs.PossibleTypes.{is_sized}

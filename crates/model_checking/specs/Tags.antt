@@ -1,15 +1,13 @@
 -- Structures and enumerations by their tags (ISO/IEC 9899:2024, 6.2.1, 6.7.3.2, 6.7.3.4). A tag is looked up where it is
 -- used, and declared where it has its braces, where it stands alone with `;`, or where none is visible.
-use Rattle.std.specs.Prelude.{ℕ, Bool, true, false, List, [], ◌∷◌, length, Option, Some, None, if◌then◌else◌}
+use Rattle.std.specs.Prelude.{ℕ, Bool, true, false, List, length, Option, Some, None, if◌then◌else◌}
 use Rattle.cake_base.specs.declared.places.Place.{Place}
-use Rattle.model_types.specs.declared.numbers.Basic.{Basic}
-use Rattle.model_types.specs.declared.types.StructId.{StructId}
-use Rattle.model_types.specs.Types.{CType, Form, Struct, Enum, form_of_type}
+use Rattle.model_types.specs.Types.{CType, Struct, form_of_type}
 use Rattle.model_core.specs.CoreTypes.{plain}
 use Rattle.model_scopes.specs.declared.declarations.Kind.TheVariants.{Tag}
 use Rattle.model_scopes.specs.declared.declarations.Linkage.TheVariants.{Absent}
 use Rattle.model_scopes.specs.Declarations.{Declaration}
-use Rattle.model_scopes.specs.Scopes.{Declared, Scopes, with_struct}
+use Rattle.model_scopes.specs.Scopes.{Declared, with_struct}
 use Rattle.model_scopes.specs.Binding.{look, here, declared_as}
 use Rattle.model_scopes.specs.DeclarationRules.{broken_rule, is_struct_form}
 use Rattle.model_scopes.specs.Declaring.{declare}

@@ -1,6 +1,6 @@
 -- The words of a list of specifiers, as far as they show what it declares without its parts being known
 -- (ISO/IEC 9899:2024, 6.7.1).
-use Rattle.std.specs.Prelude.{ℕ, Bool, true, false, ◌||◌, List, [], ◌∷◌, ◌++◌, Option, Some, None, if◌then◌else◌}
+use Rattle.std.specs.Prelude.{Bool, true, false, List, [], ◌∷◌, ◌++◌, Option, Some, None, if◌then◌else◌}
 use Rattle.std.specs.List.{list_any}
 use Rattle.cake_base.specs.declared.places.Place.{Place}
 use Rattle.model_grammar.specs.declared.syntax.StorageWord.{StorageWord}
