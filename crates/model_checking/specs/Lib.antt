@@ -10,8 +10,12 @@ pub mod CompoundLiterals
 pub mod ConstantValues
 pub mod Conversion
 pub mod DeclarationContexts
+pub mod DeclarationSpecifiers
 pub mod DeclaratorNames
 pub mod DeclaratorTypes
+pub mod DeclaredNameRules
+pub mod DeclaredNames
+pub mod Declaring
 pub mod Derivations
 pub mod Elaborated
 pub mod Enumerations
@@ -21,6 +25,7 @@ pub mod FaultsBeside
 pub mod Fitting
 pub mod FullExpressions
 pub mod HeldValues
+pub mod Inference
 pub mod InitialValues
 pub mod Initializing
 pub mod LaterForms
@@ -41,6 +46,7 @@ pub mod Qualifiers
 pub mod Reading
 pub mod ScalarCounts
 pub mod Scoping
+pub mod Settling
 pub mod SizeRules
 pub mod SpecifierTypes
 pub mod SpecifierWords
@@ -55,9 +61,3 @@ pub mod UnaryRules
 pub mod Units
 pub mod Ways
 pub mod Words
-pub mod DeclaredNames
-pub mod DeclaredNameRules
-pub mod Declaring
-pub mod DeclarationSpecifiers
-pub mod Inference
-pub mod Settling
