@@ -99,7 +99,7 @@ literal_head w place = record {
   is_main = false;
 }
 
-abbrev span_of_block : syntax.Block → Span
+abbrev pub span_of_block : syntax.Block → Span
 span_of_block (syntax.block items span) = span
 
 abbrev literal_body : Ends → Waiting → syntax.Expr → State → Reached

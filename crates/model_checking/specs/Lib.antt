@@ -11,6 +11,7 @@ pub mod ConstantValues
 pub mod Conversion
 pub mod DeclarationContexts
 pub mod DeclarationSpecifiers
+pub mod Declarations
 pub mod DeclaratorNames
 pub mod DeclaratorTypes
 pub mod DeclaredNameRules
@@ -19,6 +20,7 @@ pub mod Declaring
 pub mod Derivations
 pub mod Elaborated
 pub mod Enumerations
+pub mod ExternalDefinitions
 pub mod FaultOrder
 pub mod Faults
 pub mod FaultsBeside

@@ -9,7 +9,7 @@ use Rattle.model_types.specs.Types.{CType}
 use Rattle.model_scopes.specs.Declarations.{Value}
 use Rattle.model_scopes.specs.Scopes.{drawn}
 use Rattle.model_grammar.specs.SyntaxForms as syntax
-use Rattle.c_tree.specs.SyntaxPlaces.{expr_first, type_name_first, declarator_first}
+use Rattle.c_tree.specs.SyntaxPlaces.{expr_first, specs_first, type_name_first, declarator_first}
 use Rattle.model_core.specs.CoreTypes.{int_type}
 use Rattle.model_checking.specs.State.{Use, State, Waiting, Both, Answer, Reached, gives, then_do, unless, with_state, in_scopes, note_type}
 use Rattle.model_checking.specs.Meanings.{Meaning, a_function, Operand}
@@ -52,6 +52,9 @@ nowhere = record { file = 0; line = 0; column = 0; order = 0 }
 
 abbrev pub type_name_place : syntax.TypeName → Place
 type_name_place name = unwrap_or (type_name_first name) nowhere
+
+abbrev pub specs_place : syntax.Specs → Place
+specs_place specs = unwrap_or (specs_first specs) nowhere
 
 -- of a declarator, or what stands before it where it has none
 abbrev pub first_or : (before : Place) → syntax.Declarator → Place
@@ -143,7 +146,8 @@ both x s = record { made = x; state = s }
 abbrev pub with_both : {A B : Type 0} → Both A → (A → State → B) → B
 with_both x go = go x.made x.state
 
-abbrev ended_value : Operand → State → Reached → Both Given
+-- a value, with the first fault of the bodies of its function literals
+abbrev pub ended_value : Operand → State → Reached → Both Given
 ended_value o s (Ok t) = both (a_value o.value o.first None) t
 ended_value o s (Err later) = both (a_value o.value o.first (Some later)) s
 
