@@ -15,6 +15,7 @@ use Rattle.model_grammar.specs.declared.syntax.Name.{Name}
 use Rattle.model_grammar.specs.SyntaxForms as syntax
 use Rattle.model_checking.specs.Parts.{Storage}
 use Rattle.model_checking.specs.DeclarationContexts.{Context, is_outermost}
+use Rattle.model_checking.specs.Qualified.{made_const}
 use Rattle.model_checking.specs.Derivations.{Derivation, is_function_step, outline}
 
 -- what stands behind a declarator
@@ -84,12 +85,20 @@ is_automatic_kind Tag g = false
 
 -- ---- the declaration
 
+-- a `constexpr` object is const (6.7.2)
+abbrev pub type_as : Kind → Setting → CType → CType
+type_as Object g type = if g.storage.has_constexpr then made_const type else type
+type_as Function g type = type
+type_as TypeName g type = type
+type_as Enumerator g type = type
+type_as Tag g type = type
+
 abbrev pub declaration_as : Kind → Setting → Name → CType → Scopes → Declaration
 declaration_as kind g name type s = record {
   name = name.text;
   kind = kind;
   linkage = linkage_of_kind kind g name.text s;
-  ty = type;
+  ty = type_as kind g type;
   value = None;
   defines = defines_kind kind g;
   automatic = is_automatic_kind kind g;

@@ -29,6 +29,11 @@ qualified list (typed (Array element count) quals) = typed (Array (qualified lis
 qualified list (typed (Function result parameters is_variadic) quals) = typed (Function result parameters is_variadic) quals
 qualified list (typed form quals) = typed form (with_all list quals)
 
+-- the type with `const` besides; of an array, its elements
+abbrev pub made_const : CType → CType
+made_const (typed (Array element count) quals) = typed (Array (made_const element) count) quals
+made_const (typed form quals) = typed form (with_qualifier Const quals)
+
 -- ---- C29: `_Owner` or `_Opt` qualifies no pointer to an object, or `_Owner` and `_View` meet
 
 abbrev pub is_of_ownership : QualifierWord → Bool
