@@ -32,7 +32,7 @@ pub record Declared : Type 0 where
   pub first : Place
   pub parameters : List Declaration
 
--- where a designator leads (6.7.11)
+-- where a designator leads (6.7.11); a negative index leads nowhere
 pub data GivenStep : Type 0 where
   to_element : (index : ℕ) (place : Place) → GivenStep
   to_no_element : (place : Place) → GivenStep
@@ -41,11 +41,11 @@ pub data GivenStep : Type 0 where
 
 mutual
   -- an initializer with its values elaborated, before it is known what they are for: a value, with its first token and
-  -- the first fault of the bodies of its function literals; a string, with the id of the object that it is where it
-  -- doesn't fill an array; braces; or the first fault, behind which nothing follows
+  -- the first fault of the bodies of its function literals; a string, with the id and the address of the object that it
+  -- is where it doesn't fill an array; braces; or the first fault, behind which nothing follows
   pub data Given : Type 0 where
     a_value : (value : unit.Expr) (first : Place) (later : Option Fault) → Given
-    a_text : (bytes : List ℕ) (value : unit.Expr) (first : Place) → Given
+    a_text : (id : ℕ) (bytes : List ℕ) (value : unit.Expr) (first : Place) → Given
     in_braces : (items : GivenItems) (place : Place) → Given
     faulty : (fault : Fault) (first : Place) → Given
 
