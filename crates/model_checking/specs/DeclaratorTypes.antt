@@ -16,6 +16,7 @@ use Rattle.model_scopes.specs.Declarations.{Declaration}
 use Rattle.model_grammar.specs.SyntaxForms as syntax
 use Rattle.model_checking.specs.State.{State, Answer, gives, then_do}
 use Rattle.model_checking.specs.Parts.{Specified, Declared}
+use Rattle.model_checking.specs.Faults.{or_fault}
 use Rattle.model_checking.specs.FaultsBeside.{first_of_faults, fault_if, fault_at, with_fault}
 use Rattle.model_checking.specs.Qualified.{qualified, qualifier_fault, meeting_fault}
 use Rattle.model_checking.specs.Derivations.{Derivation, a_pointer, an_array, a_function, a_faulty_array, a_faulty_function, outline, entries_of}
@@ -40,14 +41,10 @@ abbrev pub element_fault : List Structure → (first : Place) → (element : CTy
 element_fault structs first element =
     if is_function (form_of_type element) then Some (constraint_at first 28) else fault_if (not (is_complete structs element)) first 22
 
-abbrev pub or_else : Option Fault → Option Fault → Option Fault
-or_else (Some fault) other = Some fault
-or_else None other = other
-
 -- C25 besides: an array of what may be an element isn't too large
 abbrev pub array_fault : List Structure → (first : Place) → (element : CType) → (length : Option ℕ) → Option Fault
 array_fault structs first element length =
-    or_else (element_fault structs first element) (fault_if (not (length_fits structs element length)) first 25)
+    or_fault (element_fault structs first element) (fault_if (not (length_fits structs element length)) first 25)
 
 -- C28: a function gives no array and no function
 abbrev pub result_fault : (first : Place) → (result : CType) → Option Fault
@@ -132,5 +129,5 @@ steps_fault structs first base ds = first_of_faults (derived structs first base 
 abbrev pub declarator : Specified → (first : Place) → syntax.Declarator → (before : State) → Answer (List Derivation) → Answer Declared
 declarator given first d before answer =
     with_fault (steps_fault before.scopes.structs first given.type (steps_or_outline d answer))
-      (then_do answer (λ ds s.
-      gives (declared_by given first (declarator_name d) (derived before.scopes.structs first given.type ds).type ds) s))
+    (then_do answer (λ ds s.
+    gives (declared_by given first (declarator_name d) (derived before.scopes.structs first given.type ds).type ds) s))

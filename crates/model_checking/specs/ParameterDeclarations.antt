@@ -92,8 +92,8 @@ parameter_if is_alone name d (Some type) s = parameter_of is_alone name d type s
 abbrev pub parameter : (is_alone : Bool) → syntax.Declarator → (before : State) → Answer part.Declared → Answer (Option CType)
 parameter is_alone declarator before answer =
     with_fault (rule_at (parameter_rule before) (declarator_name declarator))
-      (then_do answer (λ d s.
-      with_fault (rule_at (parameter_rule s) (declarator_name declarator)) (parameter_if is_alone (declarator_name declarator) d d.type s)))
+    (then_do answer (λ d s.
+    with_fault (rule_at (parameter_rule s) (declarator_name declarator)) (parameter_if is_alone (declarator_name declarator) d d.type s)))
 
 -- ---- behind the list
 
