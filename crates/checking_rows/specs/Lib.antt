@@ -1,4 +1,5 @@
 pub mod InitializerParts
+pub mod InitializerAnswers
 pub mod InitializerLists
 pub mod InitializerDesignators
 pub mod InitializerStrings
