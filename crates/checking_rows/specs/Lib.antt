@@ -9,3 +9,4 @@ pub mod InitializerStatic
 pub mod InitializerFaults
 pub mod InitializerDesignated
 pub mod InitializerOrder
+pub mod InitializerLiterals

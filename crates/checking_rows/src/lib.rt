@@ -6,6 +6,7 @@ pub mod initializer_designators;
 pub mod initializer_faults;
 pub mod initializer_lengths;
 pub mod initializer_lists;
+pub mod initializer_literals;
 pub mod initializer_order;
 pub mod initializer_static;
 pub mod initializer_strings;
