@@ -10,3 +10,4 @@ pub mod InitializerFaults
 pub mod InitializerDesignated
 pub mod InitializerOrder
 pub mod InitializerLiterals
+pub mod InitializerBodies

@@ -1,6 +1,7 @@
 //! Worked examples of checking: each function does nothing, and its contract is what the definitions answer.
 #![tactic(auto)]
 
+pub mod initializer_bodies;
 pub mod initializer_designated;
 pub mod initializer_designators;
 pub mod initializer_faults;
