@@ -5,6 +5,7 @@ pub mod ExpressionStructures
 pub mod ExpressionConstants
 pub mod ExpressionNames
 pub mod InitializerParts
+pub mod InitializerAnswers
 pub mod InitializerLists
 pub mod InitializerDesignators
 pub mod InitializerStrings
@@ -34,3 +35,5 @@ pub mod DeclarationDeclarators1
 pub mod DeclarationDeclarators2
 pub mod DeclarationDeclarators3
 pub mod DeclarationOrder
+pub mod InitializerLiterals
+pub mod InitializerBodies
