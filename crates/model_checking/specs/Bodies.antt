@@ -1,8 +1,7 @@
 -- The bodies of functions and of function literals (ISO/IEC 9899:2024, 6.9.2; literals are this profile's own): one scope
 -- with the parameters, which are declared in it again. `return 0;` stands at the `}` of `main` (5.1.2.3.4).
-use Rattle.std.specs.Prelude.{ℕ, zero, suc, ◌+◌, ℤ, pos, Bool, true, false, if◌then◌else◌, List, [], ◌∷◌, ◌++◌, Option, Some, None, Ok, Err}
+use Rattle.std.specs.Prelude.{ℕ, zero, suc, pos, Bool, true, false, if◌then◌else◌, List, [], ◌∷◌, ◌++◌, Option, Some, None, Ok, Err}
 use Rattle.cake_base.specs.declared.places.Place.{Place}
-use Rattle.model_types.specs.declared.marks.Mark.{Mark}
 use Rattle.model_types.specs.declared.marks.Span.{Span}
 use Rattle.model_types.specs.Types.{CType, form_of_type}
 use Rattle.model_scopes.specs.Declarations.{Declaration}

@@ -2,13 +2,12 @@
 -- declares, then its initializer is read, and then the object has its type and its values. What is left of it are the
 -- initializations of automatic objects.
 use Rattle.std.specs.Prelude.{Bool, true, false, List, [], ◌∷◌, ◌++◌, Option, Some, None, is_some}
-use Rattle.cake_base.specs.declared.places.Place.{Place}
 use Rattle.model_grammar.specs.declared.syntax.Name.{Name}
 use Rattle.model_grammar.specs.SyntaxForms as syntax
 use Rattle.model_core.specs.CoreTypes.{type_of}
 use Rattle.model_core.specs.Core as unit
 use Rattle.model_checking.specs.State.{Use, State, Answer, gives, then_do, and_then, unless}
-use Rattle.model_checking.specs.Parts.{Specified, Given}
+use Rattle.model_checking.specs.Parts.{Specified}
 use Rattle.model_checking.specs.DeclarationContexts.{Context}
 use Rattle.model_checking.specs.DeclarationSpecifiers.{declaration_specifiers}
 use Rattle.model_checking.specs.Tags.{is_lone}

@@ -1,7 +1,7 @@
 -- What the expressions, type names, specifiers, declarators and initializers of a tree mean at a point of a unit
 -- (ISO/IEC 9899:2024, 6.5, 6.7): one function for each kind of tree, from the left to the right. The rules of a form are
 -- functions of its parts; those that name its left part alone stand before its right part.
-use Rattle.std.specs.Prelude.{ℕ, ℤ, Bool, true, false, List, [], ◌∷◌, ◌++◌, Option, Some, None}
+use Rattle.std.specs.Prelude.{ℤ, Bool, false, List, [], ◌∷◌, ◌++◌, Option, Some, None}
 use Rattle.cake_base.specs.declared.places.Place.{Place}
 use Rattle.model_types.specs.declared.numbers.Basic.{Basic}
 use Rattle.model_types.specs.Structures.{Member}
@@ -9,11 +9,11 @@ use Rattle.model_types.specs.Types.{CType, Types}
 use Rattle.model_grammar.specs.SyntaxForms as syntax
 use Rattle.model_core.specs.Core as unit
 use Rattle.c_tree.specs.SyntaxPlaces.{expr_first}
-use Rattle.model_checking.specs.State.{Use, Evaluated, Unevaluated, State, Both, Answer, gives, then_do, unless, beside, with_state}
-use Rattle.model_checking.specs.Meanings.{Meaning, Operand}
-use Rattle.model_checking.specs.Parts.{Specified, Declared, Given, in_braces, GivenStep, to_member, GivenItems, no_given, more_given}
+use Rattle.model_checking.specs.State.{Use, Unevaluated, State, Both, Answer, gives, then_do, unless, beside, with_state}
+use Rattle.model_checking.specs.Meanings.{Meaning}
+use Rattle.model_checking.specs.Parts.{Specified, Declared, Given, in_braces, GivenStep, to_member, GivenItems, no_given}
 use Rattle.model_checking.specs.Marks.{mark_of, in_parentheses}
-use Rattle.model_checking.specs.MadeCore.{operand, meaning_type}
+use Rattle.model_checking.specs.MadeCore.{meaning_type}
 use Rattle.model_checking.specs.NamedObjects.{named}
 use Rattle.model_checking.specs.Literals.{number, truth_value, null_pointer, text}
 use Rattle.model_checking.specs.UnaryRules.{unary, note_taken, step}
@@ -26,7 +26,7 @@ use Rattle.model_checking.specs.ChoiceRules.{condition_fault, branch_fault, choi
 use Rattle.model_checking.specs.CastRules.{cast}
 use Rattle.model_checking.specs.SizeRules.{size_of_operand, size_of_name, alignment_of_name}
 use Rattle.model_checking.specs.CompoundLiterals.{literal_fault, compound_literal}
-use Rattle.model_checking.specs.DeclarationContexts.{Context, of_parameter, of_member, of_type_name}
+use Rattle.model_checking.specs.DeclarationContexts.{of_parameter, of_member, of_type_name}
 use Rattle.model_checking.specs.SpecifierTypes.{specifiers, typeof_type, typedef_type}
 use Rattle.model_checking.specs.Structures.{struct_tag, struct_begun, member as next_member, struct_completed}
 use Rattle.model_checking.specs.Enumerations.{fixed_type, enum_tag, enum_begun, Enumeration, enumerator}

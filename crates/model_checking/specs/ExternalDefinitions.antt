@@ -1,12 +1,9 @@
 -- External definitions (ISO/IEC 9899:2024, 6.9): declarations at file scope, and functions with their bodies.
-use Rattle.std.specs.Prelude.{ℕ, Bool, false, List, Option, None, Ok, Err, codes}
+use Rattle.std.specs.Prelude.{Bool, false, None, Ok, Err, codes}
 use Rattle.model_types.specs.Texts.{same_text}
-use Rattle.model_types.specs.declared.marks.Span.{Span}
 use Rattle.model_scopes.specs.Declarations.{Declaration}
 use Rattle.model_grammar.specs.SyntaxForms as syntax
-use Rattle.model_core.specs.Core as unit
-use Rattle.model_checking.specs.State.{Evaluated, State, Both, Answer, Reached, then_do}
-use Rattle.model_checking.specs.Parts.{Specified}
+use Rattle.model_checking.specs.State.{Evaluated, State, Answer, Reached, then_do}
 use Rattle.model_checking.specs.DeclarationContexts.{at_file, of_definition}
 use Rattle.model_checking.specs.SpecifierTypes.{specifiers}
 use Rattle.model_checking.specs.DeclaratorTypes.{declarator}

@@ -1,6 +1,6 @@
 -- Expressions that no other holds (ISO/IEC 9899:2024, 6.8.1): the bodies of the function literals in them are elaborated
 -- behind them. Conditions, values of `switch` and of `case`, and values that are dropped or returned (6.8.2 to 6.8.7).
-use Rattle.std.specs.Prelude.{ℤ, pos, Bool, true, false, if◌then◌else◌, List, [], ◌∷◌, Option, Some, None}
+use Rattle.std.specs.Prelude.{ℤ, pos, Bool, true, false, List, [], ◌∷◌, Option, Some, None}
 use Rattle.std.specs.List.{list_any}
 use Rattle.std.specs.Ordering.{int_eq}
 use Rattle.cake_base.specs.declared.places.Place.{Place}
@@ -17,7 +17,6 @@ use Rattle.model_core.specs.TypedParts.{is_scalar}
 use Rattle.model_core.specs.TypedExpr.{form_of}
 use Rattle.model_core.specs.Core as unit
 use Rattle.model_checking.specs.State.{Use, State, Answer, gives, and_then, then_do, unless, with_state}
-use Rattle.model_checking.specs.Meanings.{Meaning, Operand}
 use Rattle.model_checking.specs.MadeCore.{used_fault, unread_fault, promoted_value}
 use Rattle.model_checking.specs.Conversion.{passed}
 use Rattle.model_checking.specs.Reading.{Ends, as_operand}

@@ -6,7 +6,7 @@ use Rattle.cake_base.specs.declared.places.Place.{Place}
 use Rattle.model_types.specs.Types.{CType}
 use Rattle.model_scopes.specs.declared.declarations.Kind.{Kind}
 use Rattle.model_scopes.specs.declared.declarations.Kind.TheVariants.{Object, Function, TypeName, Enumerator, Tag}
-use Rattle.model_scopes.specs.Declarations.{Declaration, linkage_of, has_linkage}
+use Rattle.model_scopes.specs.Declarations.{linkage_of, has_linkage}
 use Rattle.model_scopes.specs.DeclarationRules.{is_external}
 use Rattle.model_scopes.specs.Declaring.{joint_place, place_or}
 use Rattle.model_scopes.specs.NotedUses.{is_function_kind}

@@ -1,13 +1,12 @@
 -- What statements and blocks mean (ISO/IEC 9899:2024, 6.8), with `defer` and `if` with a declaration (this profile's own).
 -- What is done at the end of a full expression is given: the bodies of its function literals are elaborated.
-use Rattle.std.specs.Prelude.{ℕ, true, false, List, [], ◌∷◌, ◌++◌}
-use Rattle.model_types.specs.declared.marks.Span.{Span}
+use Rattle.std.specs.Prelude.{true, false, List, [], ◌∷◌, ◌++◌}
 use Rattle.model_grammar.specs.SyntaxForms as syntax
 use Rattle.model_core.specs.Core as unit
 use Rattle.model_checking.specs.State.{State, Answer, gives, breaks, then_do, unless}
 use Rattle.model_checking.specs.DeclarationContexts.{in_block, in_for, in_if}
 use Rattle.model_checking.specs.Reading.{Ends}
-use Rattle.model_checking.specs.Scoping.{Scoped, in_scope, Prepared, in_own_scope, prepared, substatement}
+use Rattle.model_checking.specs.Scoping.{in_scope, in_own_scope, prepared, substatement}
 use Rattle.model_checking.specs.Surroundings.{Surroundings, in_loop, in_switch, in_defer, jump_fault, return_fault}
 use Rattle.model_checking.specs.FullExpressions.{dropped, condition, switch_value, returned, maybe_dropped, maybe_condition, Labels, no_labels, default_fault, case_value, with_case, with_default, deferred_fault}
 use Rattle.model_checking.specs.Declarations.{declaration, maybe_declaration}

@@ -1,6 +1,6 @@
 -- What a translation unit means (ISO/IEC 9899:2024, 6.9): its core, or the first constraint that it breaks in the order of
 -- checking.
-use Rattle.std.specs.Prelude.{ℕ, List, [], ◌∷◌, Option, Some, None, Result, Ok, Err}
+use Rattle.std.specs.Prelude.{List, [], ◌∷◌, Option, Some, None, Result, Ok, Err}
 use Rattle.std.specs.Option.{option_map}
 use Rattle.cake_base.specs.declared.places.Place.{Place}
 use Rattle.cake_base.specs.declared.rules.Fault.{Fault}
@@ -10,7 +10,7 @@ use Rattle.model_scopes.specs.NotedUses.{unresolved}
 use Rattle.model_grammar.specs.SyntaxForms as syntax
 use Rattle.c_tree.specs.SyntaxDepth.{unit_depth}
 use Rattle.model_core.specs.Core as unit
-use Rattle.model_checking.specs.State.{State, Answer, Reached, start}
+use Rattle.model_checking.specs.State.{State, Reached, start}
 use Rattle.model_checking.specs.Reading.{Ends}
 use Rattle.model_checking.specs.Bodies.{literal_bodies}
 use Rattle.model_checking.specs.ExternalDefinitions.{external}
