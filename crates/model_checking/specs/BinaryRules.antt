@@ -11,8 +11,8 @@ use Rattle.model_core.specs.Core as unit
 use Rattle.model_checking.specs.State.{unless}
 use Rattle.model_checking.specs.Meanings.{Meaning, a_value, Operand}
 use Rattle.model_checking.specs.Faults.{wants}
-use Rattle.model_checking.specs.MadeCore.{operand_form, used_fault, promoted_value}
-use Rattle.model_checking.specs.PointerRules.{are_integers, in_common_type, sum, comparison}
+use Rattle.model_checking.specs.MadeCore.{operand_form, used_fault, promoted_value, are_integers, in_common_type}
+use Rattle.model_checking.specs.PointerRules.{sum, comparison}
 
 -- what the left operand breaks alone: C21
 abbrev pub left_fault : List Structure → Operand → Option Fault

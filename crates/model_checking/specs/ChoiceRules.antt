@@ -15,8 +15,8 @@ use Rattle.model_checking.specs.State.{unless}
 use Rattle.model_checking.specs.Meanings.{Meaning, a_value, Operand}
 use Rattle.model_checking.specs.Faults.{wants, or_fault}
 use Rattle.model_checking.specs.Qualifiers.{quals_behind, joined_quals, qualified_by}
-use Rattle.model_checking.specs.MadeCore.{operand_form, used_fault, unread_fault, converted, common_type}
-use Rattle.model_checking.specs.PointerRules.{are_integers, is_pointer_or_null}
+use Rattle.model_checking.specs.MadeCore.{operand_form, used_fault, unread_fault, converted, common_type, are_integers}
+use Rattle.model_checking.specs.PointerRules.{is_pointer_or_null}
 
 -- of the condition C21 at its first token, and C09 at the `?`
 abbrev pub condition_fault : List Structure → (at : Place) → Operand → Option Fault

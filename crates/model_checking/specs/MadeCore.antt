@@ -1,8 +1,9 @@
 -- The value of what an expression is (ISO/IEC 9899:2024, 6.3.3), and the conversions that operators imply (6.3.2).
-use Rattle.std.specs.Prelude.{ℤ, Bool, true, false, if◌then◌else◌, List, Option, Some, None}
+use Rattle.std.specs.Prelude.{ℤ, Bool, true, false, ◌&&◌, if◌then◌else◌, List, Option, Some, None}
 use Rattle.cake_base.specs.declared.places.Place.{Place}
 use Rattle.cake_base.specs.declared.rules.Fault.{Fault}
 use Rattle.model_types.specs.declared.numbers.Basic.{Basic}
+use Rattle.model_types.specs.declared.numbers.BinOp.{BinOp}
 use Rattle.model_types.specs.declared.marks.Mark.{Mark}
 use Rattle.model_types.specs.declared.marks.Origin.TheVariants.{Implied}
 use Rattle.model_types.specs.Types.{CType, Form, Integer, form_of_type}
@@ -10,7 +11,7 @@ use Rattle.model_types.specs.Structures.{Structure}
 use Rattle.model_types.specs.Layout.{is_complete}
 use Rattle.model_types.specs.Conversions.{promoted, common}
 use Rattle.model_core.specs.CoreTypes.{plain, unqualified, pointee, type_of, object_type, basic_of, is_void}
-use Rattle.model_core.specs.SameTypes.{same_value_type, is_plain_void_pointer}
+use Rattle.model_core.specs.SameTypes.{is_integer, same_value_type, is_plain_void_pointer}
 use Rattle.model_core.specs.TypedParts.{is_array}
 use Rattle.model_core.specs.TypedExpr.{form_of, object_form}
 use Rattle.model_core.specs.SourceMarks.{expr_mark, lvalue_mark}
@@ -92,3 +93,10 @@ promoted_value e = converted (promoted_type e) e
 -- the type of the usual conversions of two integers
 abbrev pub common_type : unit.Expr → unit.Expr → CType
 common_type a b = integer_type (common (basic_in a) (basic_in b))
+
+abbrev pub are_integers : Form → Form → Bool
+are_integers f g = is_integer f && is_integer g
+
+-- an operation on two integers in that type
+abbrev pub in_common_type : BinOp → Mark → (a b : unit.Expr) → unit.Expr
+in_common_type op mark a b = unit.Binary op (converted (common_type a b) a) (converted (common_type a b) b) mark

@@ -1,5 +1,5 @@
 -- Members of structures (ISO/IEC 9899:2024, 6.5.3.4): C09, C12 and C13.
-use Rattle.std.specs.Prelude.{ℕ, ◌+◌, Bool, true, false, if◌then◌else◌, List, [], ◌∷◌, ◌++◌, Option, Some, None, Result, Ok}
+use Rattle.std.specs.Prelude.{ℕ, ◌+◌, if◌then◌else◌, List, [], ◌∷◌, Option, Some, None, Result, Ok}
 use Rattle.cake_base.specs.declared.rules.Fault.{Fault}
 use Rattle.model_types.specs.declared.marks.Mark.{Mark}
 use Rattle.model_types.specs.Types.{CType, Form, form_of_type, quals_of_type}
@@ -7,16 +7,15 @@ use Rattle.model_types.specs.Structures.{Member, Structure}
 use Rattle.model_types.specs.Layout.{members_of_form}
 use Rattle.model_types.specs.Texts.{same_text}
 use Rattle.model_grammar.specs.declared.syntax.Name.{Name}
-use Rattle.model_core.specs.CoreTypes.{type_of, pointee}
+use Rattle.model_core.specs.CoreTypes.{pointee}
 use Rattle.model_core.specs.TypedParts.{is_array, is_struct}
 use Rattle.model_core.specs.MemberTypes.{member_type}
-use Rattle.model_core.specs.SourceMarks.{expr_mark}
 use Rattle.model_core.specs.Core as unit
-use Rattle.model_checking.specs.State.{Use, State, Made, Answer, gives, breaks, unless}
+use Rattle.model_checking.specs.State.{Use, State, Answer, gives, breaks, unless}
 use Rattle.model_checking.specs.Meanings.{Meaning, a_place, a_value, a_function, a_target, Operand}
 use Rattle.model_checking.specs.Faults.{wants}
 use Rattle.model_checking.specs.MadeCore.{meaning_type, operand_form}
-use Rattle.model_checking.specs.Literals.{is_evaluated, with_made}
+use Rattle.model_checking.specs.HeldValues.{held, with_held}
 use Rattle.model_checking.specs.PointerRules.{points_to_object}
 
 -- a member with its rank
@@ -43,26 +42,6 @@ field object name mark m =
     a_place (unit.Field object m.rank (member_type (quals_of_type (meaning_type (a_place object None))) m.type) name.place mark) None
 
 -- an array of a structure's value is one of an object that holds the value for a while (6.2.4)
-abbrev pub held : (id : ℕ) → unit.Expr → unit.Lvalue
-held id e = unit.Literal id (type_of e) (unit.more_initials [] 0 (type_of e) e unit.no_initials) (expr_mark e)
-
-abbrev pub held_made : Use → (id : ℕ) → unit.Expr → Made
-held_made usage id e = record {
-  id = id;
-  type = type_of e;
-  place = (expr_mark e).at;
-  text = None;
-  values = None;
-  is_evaluated = is_evaluated usage;
-}
-
-abbrev pub noted_automatic : Bool → (id : ℕ) → State → State
-noted_automatic true id s = record s { automatic = s.automatic ++ id ∷ [] }
-noted_automatic false id s = s
-
-abbrev pub with_held : Use → unit.Expr → State → State
-with_held usage e s = noted_automatic (is_evaluated usage) s.scopes.ids (with_made (held_made usage s.scopes.ids e) s)
-
 abbrev pub value_member : Use → unit.Expr → Name → Mark → Ranked → State → Answer Meaning
 value_member usage e name mark m s =
     if is_array (form_of_type m.type) then gives (field (held s.scopes.ids e) name mark m) (with_held usage e s)

@@ -16,7 +16,7 @@ use Rattle.model_core.specs.Core as unit
 use Rattle.model_checking.specs.State.{unless}
 use Rattle.model_checking.specs.Meanings.{Meaning, a_place, a_value, Operand}
 use Rattle.model_checking.specs.Faults.{wants, or_fault}
-use Rattle.model_checking.specs.MadeCore.{operand_form, converted, used_fault, common_type}
+use Rattle.model_checking.specs.MadeCore.{are_integers, in_common_type, operand_form, converted, used_fault}
 
 -- a pointer to a complete object
 abbrev pub points_to_object : List Structure → Form → Bool
@@ -25,9 +25,6 @@ points_to_object structs form = is_object_pointer form && can_move structs form
 -- C12: a pointer that is moved points to a complete object
 abbrev pub moved_fault : List Structure → Operand → Option Fault
 moved_fault structs o = if is_pointer (operand_form o) then wants (points_to_object structs (operand_form o)) o.first 12 else None
-
-abbrev pub are_integers : Form → Form → Bool
-are_integers f g = is_integer f && is_integer g
 
 -- a pointer and an integer
 abbrev pub are_moved : (pointer count : Form) → Bool
@@ -52,9 +49,6 @@ sum_fault structs at a b =
     or_fault (moved_fault structs a) (or_fault (wants (may_be_apart a.value b.value) at 19) (moved_fault structs b))
 
 -- integers in their common type; a pointer and an integer as they are
-abbrev pub in_common_type : BinOp → Mark → (a b : unit.Expr) → unit.Expr
-in_common_type op mark a b = unit.Binary op (converted (common_type a b) a) (converted (common_type a b) b) mark
-
 abbrev pub added : BinOp → Mark → (a b : unit.Expr) → unit.Expr
 added op mark a b = if are_integers (form_of a) (form_of b) then in_common_type op mark a b else unit.Binary op a b mark
 

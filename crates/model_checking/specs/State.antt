@@ -1,5 +1,5 @@
 -- What checking knows at a point of a unit, and what it has made so far (ISO/IEC 9899:2024, 6.2.1, 6.2.4, 6.5.3.6).
-use Rattle.std.specs.Prelude.{ℕ, Bool, List, [], Option, Some, None, Result, Ok, Err}
+use Rattle.std.specs.Prelude.{ℕ, Bool, List, [], ◌∷◌, ◌++◌, Option, Some, None, Result, Ok, Err}
 use Rattle.cake_base.specs.declared.places.Place.{Place}
 use Rattle.cake_base.specs.declared.rules.Fault.{Fault}
 use Rattle.model_types.specs.Types.{CType}
@@ -8,6 +8,7 @@ use Rattle.model_scopes.specs.Scopes.{Scopes}
 use Rattle.model_scopes.specs.DeclarationRules.{constraint_at}
 use Rattle.model_grammar.specs.SyntaxForms as syntax
 use Rattle.model_core.specs.Core as unit
+use Rattle.model_checking.specs.FaultsBeside.{with_fault}
 
 -- whether a part is evaluated, or stands in `sizeof`, `alignof` or `typeof`
 pub data Use : Type 0 where
@@ -17,6 +18,7 @@ pub data Use : Type 0 where
 -- a function literal whose body waits for the end of its full expression, with the id of its function, its type, and
 -- what is declared in the scope of its parameters
 pub record Waiting : Type 0 where
+  pub evaluation : Use
   pub id : ℕ
   pub literal : syntax.Expr
   pub type : CType
@@ -32,6 +34,12 @@ pub record Made : Type 0 where
   pub values : Option unit.Initials
   pub is_evaluated : Bool
 
+-- the values of an object of static storage, with the type that it has where it is initialised
+pub record Valued : Type 0 where
+  pub id : ℕ
+  pub type : CType
+  pub values : unit.Initials
+
 -- the body of a function that is defined, with the ids of its parameters; of a function literal also the place of its `(`
 pub record Body : Type 0 where
   pub id : ℕ
@@ -42,8 +50,9 @@ pub record Body : Type 0 where
 
 -- the scopes; the function literals that wait, and the objects that strings and compound literals made, in the order of
 -- the source; the automatic objects of the innermost block so far; the objects whose address was taken by a written `&`
--- in a part that is evaluated; the types that are named, with their places; the values of objects of static storage, by
--- their ids; the bodies of functions; and the first object whose values are too many
+-- in a part that is evaluated; the types that are named, with their places; the values of objects of static storage; the
+-- bodies of functions; the ids, from a first up to another, that were drawn in lists of parameters and in bodies that
+-- aren't evaluated, whose objects no block has; and the first object whose values are too many
 pub record State : Type 0 where
   pub scopes : Scopes
   pub waiting : List Waiting
@@ -51,8 +60,9 @@ pub record State : Type 0 where
   pub automatic : List ℕ
   pub taken : List ℕ
   pub named : List (Place × CType)
-  pub values : List (ℕ × unit.Initials)
+  pub values : List Valued
   pub bodies : List Body
+  pub left_out : List (ℕ × ℕ)
   pub limit : Option Place
 
 -- what a part is, with the state behind it
@@ -75,17 +85,22 @@ abbrev pub then_do : {A B : Type 0} → Answer A → (A → State → Answer B) 
 then_do (Ok both) go = go both.made both.state
 then_do (Err fault) go = Err fault
 
+-- the state behind a part that makes nothing, or its first fault
+abbrev pub Reached : Type 0
+Reached = Result State Fault
+
+abbrev pub and_then : {B : Type 0} → Reached → (State → Answer B) → Answer B
+and_then (Ok s) go = go s
+and_then (Err fault) go = Err fault
+
 -- a fault, where there is one, before what comes behind
 abbrev pub unless : {A : Type 0} → Option Fault → Result A Fault → Result A Fault
 unless None behind = behind
 unless (Some fault) behind = Err fault
 
--- a right part, and what is made of it; the first fault that the left part alone breaks counts where the right one is
--- faulty, since it stands before it
+-- a right part, and what is made of it; what the left part breaks alone counts whether the right one is faulty or not
 abbrev pub beside : {A B : Type 0} → (left : Option Fault) → Answer A → (A → State → Answer B) → Answer B
-beside left (Ok both) go = go both.made both.state
-beside None (Err fault) go = Err fault
-beside (Some left) (Err fault) go = Err left
+beside left right go = with_fault left (then_do right go)
 
 -- what the rules make of plain values, in a state that they leave alone
 abbrev pub with_state : {A : Type 0} → Result A Fault → State → Answer A
@@ -103,9 +118,15 @@ start scopes = record {
   named = [];
   values = [];
   bodies = [];
+  left_out = [];
   limit = None;
 }
 
 -- the state with other scopes
 abbrev pub in_scopes : Scopes → State → State
 in_scopes scopes s = record s { scopes = scopes }
+
+-- a type that is named, where it is evaluated
+abbrev pub note_type : Use → Place → CType → State → State
+note_type Evaluated place type s = record s { named = s.named ++ (place, type) ∷ [] }
+note_type Unevaluated place type s = s

@@ -15,7 +15,7 @@ use Rattle.model_types.specs.Layout.{is_complete}
 use Rattle.model_types.specs.Conversions.{common}
 use Rattle.model_grammar.specs.declared.syntax.PrefixOp.{PrefixOp}
 use Rattle.model_grammar.specs.declared.syntax.PrefixOp.TheVariants as prefix
-use Rattle.model_core.specs.CoreTypes.{unqualified, object_type, is_pointer}
+use Rattle.model_core.specs.CoreTypes.{unqualified, object_type, is_pointer, is_void, basic_of}
 use Rattle.model_core.specs.SameTypes.{is_integer}
 use Rattle.model_core.specs.TypedParts.{is_array, is_scalar, is_function_pointer}
 use Rattle.model_core.specs.TypedExpr.{object_form}
@@ -24,13 +24,16 @@ use Rattle.model_core.specs.Core as unit
 use Rattle.model_checking.specs.State.{Use, Evaluated, State, breaks, unless}
 use Rattle.model_checking.specs.Meanings.{Meaning, a_place, a_value, a_function, a_target, Operand}
 use Rattle.model_checking.specs.Faults.{wants, or_fault}
-use Rattle.model_checking.specs.MadeCore.{value_of, operand, operand_form, promoted_value, basic_in, integer_type}
+use Rattle.model_checking.specs.MadeCore.{operand, operand_form, promoted_value, integer_type}
+use Rattle.model_checking.specs.HeldValues.{is_held}
 use Rattle.model_checking.specs.PointerRules.{points_to_object, moved_fault}
 
--- ---- `&`: C11 where the operand is neither an object nor a function
+-- ---- `&`: C11 where the operand is neither an object nor a function; an array of a structure's value is none, and an
+-- lvalue isn't of type void
 
 abbrev pub address : Mark → (first : Place) → Meaning → Result Meaning Fault
-address mark first (a_place object known) = Ok (a_value (unit.Address Written object mark))
+address mark first (a_place object known) =
+    unless (wants (not (is_held object) && not (is_void (object_type object))) first 11) (Ok (a_value (unit.Address Written object mark)))
 address mark first (a_value value) = breaks first 11
 address mark first (a_function id type by_name at) = Ok (a_value (unit.FunctionRef id type false at))
 address mark first (a_target pointer) = Ok (a_value pointer)
@@ -110,7 +113,7 @@ step_fault structs Postfix at first m = or_fault (moved_fault structs (operand f
 abbrev pub step_type : unit.Lvalue → CType
 step_type object =
     if is_pointer (object_form object) then unqualified (object_type object)
-    else integer_type (common (basic_in (value_of (a_place object None))) Int)
+    else integer_type (common (basic_of (object_form object)) Int)
 
 abbrev pub step : List Structure → StepOp → StepSide → Mark → (first : Place) → Meaning → Result Meaning Fault
 step structs op side mark first m =

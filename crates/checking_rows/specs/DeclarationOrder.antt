@@ -1,0 +1,72 @@
+-- Which fault comes first where several are there (checking order): units of one line, as trees.
+use Rattle.std.specs.Prelude.{List, [], ◌∷◌, None, false, pos, codes}
+use Rattle.model_grammar.specs.SyntaxForms as syntax
+use Rattle.model_types.specs.declared.numbers.Basic.TheVariants as basic
+use Rattle.model_grammar.specs.declared.syntax.StorageWord.TheVariants as storage
+use Rattle.model_grammar.specs.declared.syntax.TypeWord.TheVariants as type
+use Rattle.model_grammar.specs.declared.syntax.QualifierWord.TheVariants as qual
+use Rattle.checking_rows.specs.DeclarationParts.{at, name, specs, qualifier, pointer, suffixes, parameters, members, declared, block_items, span}
+
+-- void x[n];
+abbrev pub element_before_length : List syntax.External
+element_before_length = (syntax.ExternalDeclaration (syntax.SimpleDeclaration (specs (syntax.TypeSpec type.Void (at 1 0) ∷ [])) (declared (syntax.init_declarator (syntax.Named [] (name (codes "x") (at 6 1)) (suffixes (syntax.ArraySuffix (syntax.an_expr (syntax.Identifier (name (codes "n") (at 8 3)))) (at 7 2) ∷ []))) syntax.no_initializer ∷ []))) ∷ [])
+
+-- void g(void) { static int f(void), h[n]; }
+abbrev pub storage_before_length : List syntax.External
+storage_before_length = ((syntax.FunctionDefinition (specs (syntax.TypeSpec type.Void (at 1 0) ∷ [])) (syntax.Named [] (name (codes "g") (at 6 1)) (suffixes (syntax.FunctionSuffix (parameters (syntax.parameter (specs (syntax.TypeSpec type.Void (at 8 3) ∷ [])) (syntax.Unnamed [] (suffixes [])) (at 8 3) ∷ [])) false (at 7 2) ∷ []))) (syntax.block (block_items (syntax.DeclarationItem (syntax.SimpleDeclaration (specs (syntax.StorageSpec storage.Static (at 16 6) ∷ syntax.TypeSpec type.Int (at 23 7) ∷ [])) (declared (syntax.init_declarator (syntax.Named [] (name (codes "f") (at 27 8)) (suffixes (syntax.FunctionSuffix (parameters (syntax.parameter (specs (syntax.TypeSpec type.Void (at 29 10) ∷ [])) (syntax.Unnamed [] (suffixes [])) (at 29 10) ∷ [])) false (at 28 9) ∷ []))) syntax.no_initializer ∷ syntax.init_declarator (syntax.Named [] (name (codes "h") (at 36 13)) (suffixes (syntax.ArraySuffix (syntax.an_expr (syntax.Identifier (name (codes "n") (at 38 15)))) (at 37 14) ∷ []))) syntax.no_initializer ∷ []))) ∷ [])) (span (at 14 5) (at 42 18)))) ∷ [])
+
+-- int a[] = 5;
+abbrev pub length_stays_unknown : List syntax.External
+length_stays_unknown = (syntax.ExternalDeclaration (syntax.SimpleDeclaration (specs (syntax.TypeSpec type.Int (at 1 0) ∷ [])) (declared (syntax.init_declarator (syntax.Named [] (name (codes "a") (at 5 1)) (suffixes (syntax.ArraySuffix syntax.no_expr (at 6 2) ∷ []))) (syntax.an_initializer (syntax.Single (syntax.Constant (pos 5) basic.Int (at 11 5)))) ∷ []))) ∷ [])
+
+-- void v(void); void f(void) { auto x = v(); }
+abbrev pub void_value_inferred : List syntax.External
+void_value_inferred = (syntax.ExternalDeclaration (syntax.SimpleDeclaration (specs (syntax.TypeSpec type.Void (at 1 0) ∷ [])) (declared (syntax.init_declarator (syntax.Named [] (name (codes "v") (at 6 1)) (suffixes (syntax.FunctionSuffix (parameters (syntax.parameter (specs (syntax.TypeSpec type.Void (at 8 3) ∷ [])) (syntax.Unnamed [] (suffixes [])) (at 8 3) ∷ [])) false (at 7 2) ∷ []))) syntax.no_initializer ∷ []))) ∷ (syntax.FunctionDefinition (specs (syntax.TypeSpec type.Void (at 15 6) ∷ [])) (syntax.Named [] (name (codes "f") (at 20 7)) (suffixes (syntax.FunctionSuffix (parameters (syntax.parameter (specs (syntax.TypeSpec type.Void (at 22 9) ∷ [])) (syntax.Unnamed [] (suffixes [])) (at 22 9) ∷ [])) false (at 21 8) ∷ []))) (syntax.block (block_items (syntax.DeclarationItem (syntax.SimpleDeclaration (specs (syntax.StorageSpec storage.Auto (at 30 12) ∷ [])) (declared (syntax.init_declarator (syntax.Named [] (name (codes "x") (at 35 13)) (suffixes [])) (syntax.an_initializer (syntax.Single (syntax.Call (syntax.Identifier (name (codes "v") (at 39 15))) (syntax.exprs []) (at 40 16)))) ∷ []))) ∷ [])) (span (at 28 11) (at 44 19)))) ∷ [])
+
+-- static static struct { int a; int a; } x;
+abbrev pub words_before_members : List syntax.External
+words_before_members = (syntax.ExternalDeclaration (syntax.SimpleDeclaration (specs (syntax.StorageSpec storage.Static (at 1 0) ∷ syntax.StorageSpec storage.Static (at 8 1) ∷ syntax.Struct None (members (syntax.MemberDeclarators (specs (syntax.TypeSpec type.Int (at 24 4) ∷ [])) (syntax.declarators ((syntax.Named [] (name (codes "a") (at 28 5)) (suffixes [])) ∷ [])) ∷ syntax.MemberDeclarators (specs (syntax.TypeSpec type.Int (at 31 7) ∷ [])) (syntax.declarators ((syntax.Named [] (name (codes "a") (at 35 8)) (suffixes [])) ∷ [])) ∷ [])) (at 15 2) ∷ [])) (declared (syntax.init_declarator (syntax.Named [] (name (codes "x") (at 40 11)) (suffixes [])) syntax.no_initializer ∷ []))) ∷ [])
+
+-- struct { int a; int a; } static static x;
+abbrev pub members_before_words : List syntax.External
+members_before_words = (syntax.ExternalDeclaration (syntax.SimpleDeclaration (specs (syntax.Struct None (members (syntax.MemberDeclarators (specs (syntax.TypeSpec type.Int (at 10 2) ∷ [])) (syntax.declarators ((syntax.Named [] (name (codes "a") (at 14 3)) (suffixes [])) ∷ [])) ∷ syntax.MemberDeclarators (specs (syntax.TypeSpec type.Int (at 17 5) ∷ [])) (syntax.declarators ((syntax.Named [] (name (codes "a") (at 21 6)) (suffixes [])) ∷ [])) ∷ [])) (at 1 0) ∷ syntax.StorageSpec storage.Static (at 26 9) ∷ syntax.StorageSpec storage.Static (at 33 10) ∷ [])) (declared (syntax.init_declarator (syntax.Named [] (name (codes "x") (at 40 11)) (suffixes [])) syntax.no_initializer ∷ []))) ∷ [])
+
+-- void f(void) { int x; int x[n]; }
+abbrev pub name_before_suffix : List syntax.External
+name_before_suffix = ((syntax.FunctionDefinition (specs (syntax.TypeSpec type.Void (at 1 0) ∷ [])) (syntax.Named [] (name (codes "f") (at 6 1)) (suffixes (syntax.FunctionSuffix (parameters (syntax.parameter (specs (syntax.TypeSpec type.Void (at 8 3) ∷ [])) (syntax.Unnamed [] (suffixes [])) (at 8 3) ∷ [])) false (at 7 2) ∷ []))) (syntax.block (block_items (syntax.DeclarationItem (syntax.SimpleDeclaration (specs (syntax.TypeSpec type.Int (at 16 6) ∷ [])) (declared (syntax.init_declarator (syntax.Named [] (name (codes "x") (at 20 7)) (suffixes [])) syntax.no_initializer ∷ []))) ∷ syntax.DeclarationItem (syntax.SimpleDeclaration (specs (syntax.TypeSpec type.Int (at 23 9) ∷ [])) (declared (syntax.init_declarator (syntax.Named [] (name (codes "x") (at 27 10)) (suffixes (syntax.ArraySuffix (syntax.an_expr (syntax.Identifier (name (codes "n") (at 29 12)))) (at 28 11) ∷ []))) syntax.no_initializer ∷ []))) ∷ [])) (span (at 14 5) (at 33 15)))) ∷ [])
+
+-- void f(void) { int x; void (x)[2]; }
+abbrev pub first_token_before_name : List syntax.External
+first_token_before_name = ((syntax.FunctionDefinition (specs (syntax.TypeSpec type.Void (at 1 0) ∷ [])) (syntax.Named [] (name (codes "f") (at 6 1)) (suffixes (syntax.FunctionSuffix (parameters (syntax.parameter (specs (syntax.TypeSpec type.Void (at 8 3) ∷ [])) (syntax.Unnamed [] (suffixes [])) (at 8 3) ∷ [])) false (at 7 2) ∷ []))) (syntax.block (block_items (syntax.DeclarationItem (syntax.SimpleDeclaration (specs (syntax.TypeSpec type.Int (at 16 6) ∷ [])) (declared (syntax.init_declarator (syntax.Named [] (name (codes "x") (at 20 7)) (suffixes [])) syntax.no_initializer ∷ []))) ∷ syntax.DeclarationItem (syntax.SimpleDeclaration (specs (syntax.TypeSpec type.Void (at 23 9) ∷ [])) (declared (syntax.init_declarator (syntax.Grouped [] (syntax.Named [] (name (codes "x") (at 29 11)) (suffixes [])) (suffixes (syntax.ArraySuffix (syntax.an_expr (syntax.Constant (pos 2) basic.Int (at 32 14))) (at 31 13) ∷ [])) (at 28 10)) syntax.no_initializer ∷ []))) ∷ [])) (span (at 14 5) (at 36 17)))) ∷ [])
+
+-- void f(void) { int x; void x[2]; }
+abbrev pub name_before_first_token : List syntax.External
+name_before_first_token = ((syntax.FunctionDefinition (specs (syntax.TypeSpec type.Void (at 1 0) ∷ [])) (syntax.Named [] (name (codes "f") (at 6 1)) (suffixes (syntax.FunctionSuffix (parameters (syntax.parameter (specs (syntax.TypeSpec type.Void (at 8 3) ∷ [])) (syntax.Unnamed [] (suffixes [])) (at 8 3) ∷ [])) false (at 7 2) ∷ []))) (syntax.block (block_items (syntax.DeclarationItem (syntax.SimpleDeclaration (specs (syntax.TypeSpec type.Int (at 16 6) ∷ [])) (declared (syntax.init_declarator (syntax.Named [] (name (codes "x") (at 20 7)) (suffixes [])) syntax.no_initializer ∷ []))) ∷ syntax.DeclarationItem (syntax.SimpleDeclaration (specs (syntax.TypeSpec type.Void (at 23 9) ∷ [])) (declared (syntax.init_declarator (syntax.Named [] (name (codes "x") (at 28 10)) (suffixes (syntax.ArraySuffix (syntax.an_expr (syntax.Constant (pos 2) basic.Int (at 30 12))) (at 29 11) ∷ []))) syntax.no_initializer ∷ []))) ∷ [])) (span (at 14 5) (at 34 15)))) ∷ [])
+
+-- extern int x; void x[2];
+abbrev pub type_of_name_wants_declarator : List syntax.External
+type_of_name_wants_declarator = (syntax.ExternalDeclaration (syntax.SimpleDeclaration (specs (syntax.StorageSpec storage.Extern (at 1 0) ∷ syntax.TypeSpec type.Int (at 8 1) ∷ [])) (declared (syntax.init_declarator (syntax.Named [] (name (codes "x") (at 12 2)) (suffixes [])) syntax.no_initializer ∷ []))) ∷ syntax.ExternalDeclaration (syntax.SimpleDeclaration (specs (syntax.TypeSpec type.Void (at 15 4) ∷ [])) (declared (syntax.init_declarator (syntax.Named [] (name (codes "x") (at 20 5)) (suffixes (syntax.ArraySuffix (syntax.an_expr (syntax.Constant (pos 2) basic.Int (at 22 7))) (at 21 6) ∷ []))) syntax.no_initializer ∷ []))) ∷ [])
+
+-- extern int x; extern struct s x;
+abbrev pub type_of_name : List syntax.External
+type_of_name = (syntax.ExternalDeclaration (syntax.SimpleDeclaration (specs (syntax.StorageSpec storage.Extern (at 1 0) ∷ syntax.TypeSpec type.Int (at 8 1) ∷ [])) (declared (syntax.init_declarator (syntax.Named [] (name (codes "x") (at 12 2)) (suffixes [])) syntax.no_initializer ∷ []))) ∷ syntax.ExternalDeclaration (syntax.SimpleDeclaration (specs (syntax.StorageSpec storage.Extern (at 15 4) ∷ syntax.StructTag (name (codes "s") (at 29 6)) (at 22 5) ∷ [])) (declared (syntax.init_declarator (syntax.Named [] (name (codes "x") (at 31 7)) (suffixes [])) syntax.no_initializer ∷ []))) ∷ [])
+
+-- extern int x; struct s x;
+abbrev pub type_of_name_before_completeness : List syntax.External
+type_of_name_before_completeness = (syntax.ExternalDeclaration (syntax.SimpleDeclaration (specs (syntax.StorageSpec storage.Extern (at 1 0) ∷ syntax.TypeSpec type.Int (at 8 1) ∷ [])) (declared (syntax.init_declarator (syntax.Named [] (name (codes "x") (at 12 2)) (suffixes [])) syntax.no_initializer ∷ []))) ∷ syntax.ExternalDeclaration (syntax.SimpleDeclaration (specs (syntax.StructTag (name (codes "s") (at 22 5)) (at 15 4) ∷ [])) (declared (syntax.init_declarator (syntax.Named [] (name (codes "x") (at 24 6)) (suffixes [])) syntax.no_initializer ∷ []))) ∷ [])
+
+-- void f(void) { int x; { extern int y; } } static int z; void g(void) { int z; { extern int z[n]; } }
+abbrev pub linkage_before_length : List syntax.External
+linkage_before_length = ((syntax.FunctionDefinition (specs (syntax.TypeSpec type.Void (at 1 0) ∷ [])) (syntax.Named [] (name (codes "f") (at 6 1)) (suffixes (syntax.FunctionSuffix (parameters (syntax.parameter (specs (syntax.TypeSpec type.Void (at 8 3) ∷ [])) (syntax.Unnamed [] (suffixes [])) (at 8 3) ∷ [])) false (at 7 2) ∷ []))) (syntax.block (block_items (syntax.DeclarationItem (syntax.SimpleDeclaration (specs (syntax.TypeSpec type.Int (at 16 6) ∷ [])) (declared (syntax.init_declarator (syntax.Named [] (name (codes "x") (at 20 7)) (suffixes [])) syntax.no_initializer ∷ []))) ∷ syntax.StatementItem (syntax.CompoundStatement (syntax.block (block_items (syntax.DeclarationItem (syntax.SimpleDeclaration (specs (syntax.StorageSpec storage.Extern (at 25 10) ∷ syntax.TypeSpec type.Int (at 32 11) ∷ [])) (declared (syntax.init_declarator (syntax.Named [] (name (codes "y") (at 36 12)) (suffixes [])) syntax.no_initializer ∷ []))) ∷ [])) (span (at 23 9) (at 39 14))) (span (at 23 9) (at 39 14))) ∷ [])) (span (at 14 5) (at 41 15)))) ∷ syntax.ExternalDeclaration (syntax.SimpleDeclaration (specs (syntax.StorageSpec storage.Static (at 43 16) ∷ syntax.TypeSpec type.Int (at 50 17) ∷ [])) (declared (syntax.init_declarator (syntax.Named [] (name (codes "z") (at 54 18)) (suffixes [])) syntax.no_initializer ∷ []))) ∷ (syntax.FunctionDefinition (specs (syntax.TypeSpec type.Void (at 57 20) ∷ [])) (syntax.Named [] (name (codes "g") (at 62 21)) (suffixes (syntax.FunctionSuffix (parameters (syntax.parameter (specs (syntax.TypeSpec type.Void (at 64 23) ∷ [])) (syntax.Unnamed [] (suffixes [])) (at 64 23) ∷ [])) false (at 63 22) ∷ []))) (syntax.block (block_items (syntax.DeclarationItem (syntax.SimpleDeclaration (specs (syntax.TypeSpec type.Int (at 72 26) ∷ [])) (declared (syntax.init_declarator (syntax.Named [] (name (codes "z") (at 76 27)) (suffixes [])) syntax.no_initializer ∷ []))) ∷ syntax.StatementItem (syntax.CompoundStatement (syntax.block (block_items (syntax.DeclarationItem (syntax.SimpleDeclaration (specs (syntax.StorageSpec storage.Extern (at 81 30) ∷ syntax.TypeSpec type.Int (at 88 31) ∷ [])) (declared (syntax.init_declarator (syntax.Named [] (name (codes "z") (at 92 32)) (suffixes (syntax.ArraySuffix (syntax.an_expr (syntax.Identifier (name (codes "n") (at 94 34)))) (at 93 33) ∷ []))) syntax.no_initializer ∷ []))) ∷ [])) (span (at 79 29) (at 98 37))) (span (at 79 29) (at 98 37))) ∷ [])) (span (at 70 25) (at 100 38)))) ∷ [])
+
+-- struct { int a[n]; } cake_x;
+abbrev pub specifiers_before_declarators : List syntax.External
+specifiers_before_declarators = (syntax.ExternalDeclaration (syntax.SimpleDeclaration (specs (syntax.Struct None (members (syntax.MemberDeclarators (specs (syntax.TypeSpec type.Int (at 10 2) ∷ [])) (syntax.declarators ((syntax.Named [] (name (codes "a") (at 14 3)) (suffixes (syntax.ArraySuffix (syntax.an_expr (syntax.Identifier (name (codes "n") (at 16 5)))) (at 15 4) ∷ []))) ∷ [])) ∷ [])) (at 1 0) ∷ [])) (declared (syntax.init_declarator (syntax.Named [] (name (codes "cake_x") (at 22 9)) (suffixes [])) syntax.no_initializer ∷ []))) ∷ [])
+
+-- int x[n], cake_y;
+abbrev pub first_declarator_first : List syntax.External
+first_declarator_first = (syntax.ExternalDeclaration (syntax.SimpleDeclaration (specs (syntax.TypeSpec type.Int (at 1 0) ∷ [])) (declared (syntax.init_declarator (syntax.Named [] (name (codes "x") (at 5 1)) (suffixes (syntax.ArraySuffix (syntax.an_expr (syntax.Identifier (name (codes "n") (at 7 3)))) (at 6 2) ∷ []))) syntax.no_initializer ∷ syntax.init_declarator (syntax.Named [] (name (codes "cake_y") (at 11 6)) (suffixes [])) syntax.no_initializer ∷ []))) ∷ [])
+
+-- void f(void) { int x; int (* _Owner x)(void); }
+abbrev pub owner_behind_star_before_name : List syntax.External
+owner_behind_star_before_name = ((syntax.FunctionDefinition (specs (syntax.TypeSpec type.Void (at 1 0) ∷ [])) (syntax.Named [] (name (codes "f") (at 6 1)) (suffixes (syntax.FunctionSuffix (parameters (syntax.parameter (specs (syntax.TypeSpec type.Void (at 8 3) ∷ [])) (syntax.Unnamed [] (suffixes [])) (at 8 3) ∷ [])) false (at 7 2) ∷ []))) (syntax.block (block_items (syntax.DeclarationItem (syntax.SimpleDeclaration (specs (syntax.TypeSpec type.Int (at 16 6) ∷ [])) (declared (syntax.init_declarator (syntax.Named [] (name (codes "x") (at 20 7)) (suffixes [])) syntax.no_initializer ∷ []))) ∷ syntax.DeclarationItem (syntax.SimpleDeclaration (specs (syntax.TypeSpec type.Int (at 23 9) ∷ [])) (declared (syntax.init_declarator (syntax.Grouped [] (syntax.Named (pointer (at 28 11) ((qualifier qual.Owner (at 30 12)) ∷ []) ∷ []) (name (codes "x") (at 37 13)) (suffixes [])) (suffixes (syntax.FunctionSuffix (parameters (syntax.parameter (specs (syntax.TypeSpec type.Void (at 40 16) ∷ [])) (syntax.Unnamed [] (suffixes [])) (at 40 16) ∷ [])) false (at 39 15) ∷ [])) (at 27 10)) syntax.no_initializer ∷ []))) ∷ [])) (span (at 14 5) (at 47 19)))) ∷ [])

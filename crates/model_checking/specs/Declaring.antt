@@ -1,0 +1,141 @@
+-- One declarator of a declaration, or of the definition of a function, bound to what it declares (ISO/IEC 9899:2024, 6.7,
+-- 6.9.2, 6.9.3): before its initializer is read.
+use Rattle.std.specs.Prelude.{ℕ, Bool, true, false, ◌&&◌, ◌||◌, not, List, [], ◌∷◌, ◌++◌, Option, Some, None}
+use Rattle.cake_base.specs.declared.places.Place.{Place}
+use Rattle.cake_base.specs.declared.rules.Fault.{Fault}
+use Rattle.model_types.specs.Types as t
+use Rattle.model_types.specs.Types.{CType, typed, form_of_type}
+use Rattle.model_types.specs.Structures.{Structure}
+use Rattle.model_types.specs.Layout.{is_complete}
+use Rattle.model_scopes.specs.declared.declarations.Kind.{Kind}
+use Rattle.model_scopes.specs.declared.declarations.Kind.TheVariants.{Object, Function, TypeName, Enumerator, Tag}
+use Rattle.model_scopes.specs.Declarations.{Declaration}
+use Rattle.model_scopes.specs.Scopes.{Scopes}
+use Rattle.model_scopes.specs.Declaring.{id_of, declare, note_initialized}
+use Rattle.model_grammar.specs.declared.syntax.Name.{Name}
+use Rattle.model_grammar.specs.SyntaxForms as syntax
+use Rattle.model_checking.specs.State.{Use, State, Answer, gives, breaks, unless, then_do, in_scopes, note_type}
+use Rattle.model_checking.specs.Parts.{Specified, Declared}
+use Rattle.model_checking.specs.FaultsBeside.{first_of_faults, fault_if, with_fault}
+use Rattle.model_checking.specs.DeclarationContexts.{Context, of_definition}
+use Rattle.model_checking.specs.DeclaratorNames.{declarator_name, rule_at}
+use Rattle.model_checking.specs.DeclaredNames.{Setting, Ending, no_value, an_initializer, a_body, gives_value, is_body, declaration}
+use Rattle.model_checking.specs.DeclaredNameRules.{typed_name_rule, untyped_name_rule, body_faults, result_fault}
+
+-- what a declarator has bound: its declaration with its id, its first token, whether it has `constexpr`, and what is
+-- declared in the scope of its own parameters
+pub record Bound : Type 0 where
+  pub declared : Declaration
+  pub id : ℕ
+  pub first : Place
+  pub is_constexpr : Bool
+  pub parameters : List Declaration
+
+-- ---- the constraints at the first token of the declarator
+
+-- the braces or the string behind an array without length give it one
+abbrev pub awaits_length : t.Form → Ending → Bool
+awaits_length (t.Array element None) ending = gives_value ending
+awaits_length form ending = false
+
+-- C22: an object that is defined is complete; a function has no initializer
+abbrev pub wants_complete : List Structure → Kind → Setting → Declaration → Bool
+wants_complete structs Object g d = d.defines && not (is_complete structs d.ty) && not (awaits_length (form_of_type d.ty) g.ending)
+wants_complete structs Function g d = gives_value g.ending && not (is_body g.ending)
+wants_complete structs TypeName g d = false
+wants_complete structs Enumerator g d = false
+wants_complete structs Tag g d = false
+
+-- C32: a `constexpr` object has an initializer, in which it isn't used
+abbrev pub lacks_constant : Kind → Setting → (uses_itself : Bool) → Bool
+lacks_constant Object g uses_itself = g.storage.has_constexpr && (not (gives_value g.ending) || uses_itself)
+lacks_constant Function g uses_itself = false
+lacks_constant TypeName g uses_itself = false
+lacks_constant Enumerator g uses_itself = false
+lacks_constant Tag g uses_itself = false
+
+-- C22 of the result of a function that is defined
+abbrev pub result_fault_if : (is_body : Bool) → List Structure → (first : Place) → CType → Option Fault
+result_fault_if true structs first type = result_fault structs first type
+result_fault_if false structs first type = None
+
+abbrev pub declarator_faults : List Structure → Setting → (first : Place) → (uses_itself : Bool) → Declaration → Option Fault
+declarator_faults structs g first uses_itself d =
+    first_of_faults (fault_if (wants_complete structs d.kind g d) first 22)
+      (first_of_faults (fault_if (lacks_constant d.kind g uses_itself) first 32)
+        (result_fault_if (is_body g.ending) structs first d.ty))
+
+-- ---- what is bound
+
+-- a definition with its initializer or body is noted
+abbrev pub noted_value : Ending → (id : ℕ) → Place → Scopes → Scopes
+noted_value no_value id place s = s
+noted_value an_initializer id place s = note_initialized id place s
+noted_value a_body id place s = note_initialized id place s
+
+abbrev pub declared_in : Setting → Declaration → (id : ℕ) → Scopes → Scopes
+declared_in g d id s = noted_value g.ending id d.place (declare d s)
+
+-- an automatic object is one of its block
+abbrev pub in_block_if : (is_automatic : Bool) → (id : ℕ) → State → State
+in_block_if true id s = record s { automatic = s.automatic ++ id ∷ [] }
+in_block_if false id s = s
+
+-- the type of an object or a function is named
+abbrev pub note_kind : Use → Kind → Place → CType → State → State
+note_kind u Object place type s = note_type u place type s
+note_kind u Function place type s = note_type u place type s
+note_kind u TypeName place type s = s
+note_kind u Enumerator place type s = s
+note_kind u Tag place type s = s
+
+abbrev pub state_with : Use → Setting → Declaration → (id : ℕ) → State → State
+state_with u g d id s = note_kind u d.kind d.place d.ty (in_block_if d.automatic id (in_scopes (declared_in g d id s.scopes) s))
+
+abbrev pub bound_as : Setting → Declared → Declaration → (id : ℕ) → Bound
+bound_as g x d id = record { declared = d; id = id; first = x.first; is_constexpr = g.storage.has_constexpr; parameters = x.parameters }
+
+abbrev pub bound_with : Use → Setting → Declared → Declaration → State → Answer Bound
+bound_with u g x d s = gives (bound_as g x d (id_of d s.scopes)) (state_with u g d (id_of d s.scopes) s)
+
+abbrev pub bound : Use → Setting → (uses_itself : Bool) → syntax.Declarator → Declared → Name → CType → State → Answer Bound
+bound u g uses_itself d x name type s =
+    with_fault (rule_at (typed_name_rule g d type s.scopes) (Some name))
+      (unless (declarator_faults s.scopes.structs g x.first uses_itself (declaration g name type s.scopes))
+      (bound_with u g x (declaration g name type s.scopes) s))
+
+-- a function whose type is to be inferred is none (C31)
+abbrev pub bound_if : Use → Setting → (uses_itself : Bool) → syntax.Declarator → Declared → Option Name → Option CType → State → Answer Bound
+bound_if u g uses_itself d x (Some name) (Some type) s = bound u g uses_itself d x name type s
+bound_if u g uses_itself d x name type s = breaks x.first 31
+
+-- ---- a declarator, whose answer is what it declares; the state is the one before it
+
+abbrev pub bind_in : Use → Setting → (uses_itself : Bool) → Specified → syntax.Declarator → (before : State) → Answer Declared → Answer Bound
+bind_in u g uses_itself given d before answer =
+    with_fault (rule_at (untyped_name_rule g given.type d before.scopes) (declarator_name d))
+      (then_do answer (λ x s. bound_if u g uses_itself d x (declarator_name d) x.type s))
+
+abbrev pub ending_of : syntax.MaybeInitializer → Ending
+ending_of syntax.no_initializer = no_value
+ending_of (syntax.an_initializer initializer) = an_initializer
+
+-- of a declaration; `uses_itself` says that the initializer names what is declared
+abbrev pub bind : Use → Context → (uses_itself : Bool) → Specified → syntax.Declarator → syntax.MaybeInitializer → (before : State) → Answer Declared → Answer Bound
+bind u context uses_itself given d initializer before answer =
+    bind_in u (record { context = context; storage = given.storage; ending = ending_of initializer }) uses_itself given d before answer
+
+-- of the definition of a function
+abbrev pub bind_function : Use → Specified → syntax.Declarator → (before : State) → Answer Declared → Answer Bound
+bind_function u given d before answer =
+    bind_in u (record { context = of_definition; storage = given.storage; ending = a_body }) false given d before answer
+
+-- ---- a function literal
+
+abbrev pub type_faults : List Structure → (at first : Place) → Option CType → Option Fault
+type_faults structs at first None = None
+type_faults structs at first (Some type) = body_faults structs at first type
+
+-- C37 and C38 at its `(`, and C22 at the first token of its type name
+abbrev pub definition_fault : List Structure → (at first : Place) → Declared → Option Fault
+definition_fault structs at first d = type_faults structs at first d.type

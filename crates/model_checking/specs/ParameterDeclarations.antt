@@ -1,0 +1,118 @@
+-- Parameters (ISO/IEC 9899:2024, 6.7.7.4): each is declared in the scope of their list, an array or a function as a
+-- pointer. One without a name is declared without one, so that a list has as many entries of objects as parameters.
+use Rattle.std.specs.Prelude.{ℕ, ◌+◌, nat_eq, Bool, true, false, ◌&&◌, List, [], ◌∷◌, ◌++◌, Option, Some, None, if◌then◌else◌}
+use Rattle.std.specs.Option.{unwrap_or}
+use Rattle.cake_base.specs.declared.places.Place.{Place}
+use Rattle.model_types.specs.Types as t
+use Rattle.model_types.specs.Types.{CType, typed}
+use Rattle.model_types.specs.Compatible.{same_quals}
+use Rattle.model_core.specs.CoreTypes.{no_quals, pointer_to, int_type, is_void}
+use Rattle.model_scopes.specs.declared.declarations.Kind.{Kind}
+use Rattle.model_scopes.specs.declared.declarations.Kind.TheVariants.{Object, Function, TypeName, Enumerator, Tag}
+use Rattle.model_scopes.specs.declared.declarations.Linkage.TheVariants.{Absent}
+use Rattle.model_scopes.specs.Declarations.{Declaration}
+use Rattle.model_scopes.specs.Scopes.{Declared, Scopes, enter, leave}
+use Rattle.model_scopes.specs.DeclarationRules.{broken_rule}
+use Rattle.model_scopes.specs.Declaring.{first_declared, declare}
+use Rattle.model_grammar.specs.declared.syntax.Name.{Name}
+use Rattle.model_grammar.specs.SyntaxForms as syntax
+use Rattle.model_checking.specs.State.{State, Answer, gives, unless, then_do, in_scopes}
+use Rattle.model_checking.specs.Parts as part
+use Rattle.model_checking.specs.FaultsBeside.{fault_if, with_fault}
+use Rattle.model_checking.specs.DeclaratorNames.{declarator_name, rule_at}
+use Rattle.model_checking.specs.Derivations.{Derivation, a_function}
+
+-- in the scope of a list
+abbrev pub begin_parameters : State → State
+begin_parameters s = in_scopes (enter false s.scopes) s
+
+-- an array becomes a pointer to its element, a function one to itself
+abbrev pub adjusted : CType → CType
+adjusted (typed (t.Array element count) quals) = pointer_to element
+adjusted (typed (t.Function result parameters is_variadic) quals) = pointer_to (typed (t.Function result parameters is_variadic) quals)
+adjusted (typed form quals) = typed form quals
+
+-- ---- one parameter
+
+abbrev pub parameter_declaration : List ℕ → Place → CType → Declaration
+parameter_declaration name place type = record {
+  name = name;
+  kind = Object;
+  linkage = Absent;
+  ty = type;
+  value = None;
+  defines = true;
+  automatic = true;
+  place = place;
+}
+
+-- C01 and C02 at the name, whatever its type
+abbrev pub parameter_rule : State → Name → Option ℕ
+parameter_rule s name = broken_rule (parameter_declaration name.text name.place int_type) s.scopes
+
+-- an id of its own, under which it is declared without a name
+abbrev pub declare_unnamed : Declaration → Scopes → Scopes
+declare_unnamed d s = record s {
+  declared = s.declared ++ (s.ids, first_declared d s.innermost.number) ∷ [];
+  ids = s.ids + 1;
+}
+
+-- what a list of parameters declares, here or again in a body; the empty name is none
+abbrev pub declare_by_name : List ℕ → Declaration → Scopes → Scopes
+declare_by_name [] d s = declare_unnamed d s
+declare_by_name (c ∷ cs) d s = declare d s
+
+abbrev pub declare_entry : Declaration → Scopes → Scopes
+declare_entry d s = declare_by_name d.name d s
+
+abbrev pub with_parameter : Declaration → State → Answer (Option CType)
+with_parameter d s = gives (Some d.ty) (in_scopes (declare_entry d s.scopes) s)
+
+abbrev pub is_plain_void : CType → Bool
+is_plain_void (typed t.Void quals) = same_quals quals no_quals
+is_plain_void _ = false
+
+abbrev pub has_no_name : Option Name → Bool
+has_no_name None = true
+has_no_name (Some name) = false
+
+-- a list that is `void` alone declares no parameter; else none has type void (C28)
+abbrev pub parameter_of : (is_alone : Bool) → Option Name → part.Declared → CType → State → Answer (Option CType)
+parameter_of is_alone name d type s =
+    if is_alone && has_no_name name && is_plain_void type then gives None s
+    else unless (fault_if (is_void type) d.first 28) (with_parameter (parameter_declaration (unwrap_or d.name []) d.place (adjusted type)) s)
+
+abbrev pub parameter_if : (is_alone : Bool) → Option Name → part.Declared → Option CType → State → Answer (Option CType)
+parameter_if is_alone name d None s = gives None s
+parameter_if is_alone name d (Some type) s = parameter_of is_alone name d type s
+
+-- the type of a parameter, where it is one; the state is the one before its declarator, since C01 and C02 at the name count
+-- where that is faulty too
+abbrev pub parameter : (is_alone : Bool) → syntax.Declarator → (before : State) → Answer part.Declared → Answer (Option CType)
+parameter is_alone declarator before answer =
+    with_fault (rule_at (parameter_rule before) (declarator_name declarator))
+      (then_do answer (λ d s.
+      with_fault (rule_at (parameter_rule s) (declarator_name declarator)) (parameter_if is_alone (declarator_name declarator) d d.type s)))
+
+-- ---- behind the list
+
+-- what is declared in a scope, in order
+abbrev pub entries_in : (scope : ℕ) → List (ℕ × Declared) → List Declaration
+entries_in scope [] = []
+entries_in scope (e ∷ es) = if nat_eq e.1.scope scope then e.1.latest ∷ entries_in scope es else entries_in scope es
+
+abbrev pub function_derivation : (is_variadic : Bool) → Answer (List CType) → Answer Derivation
+function_derivation is_variadic answer =
+    then_do answer (λ types s.
+    gives (a_function types is_variadic (entries_in s.scopes.innermost.number s.scopes.declared)) (in_scopes (leave s.scopes) s))
+
+-- an entry is a parameter, and no tag or enumerator
+abbrev pub is_object : Kind → Bool
+is_object Object = true
+is_object Function = false
+is_object TypeName = false
+is_object Enumerator = false
+is_object Tag = false
+
+abbrev pub is_parameter : Declaration → Bool
+is_parameter d = is_object d.kind
