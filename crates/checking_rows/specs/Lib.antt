@@ -23,6 +23,7 @@ pub mod DeclarationNames2
 pub mod DeclarationNames3
 pub mod DeclarationDefinitions1
 pub mod DeclarationDefinitions2
+pub mod DeclarationDefinitions3
 pub mod DeclarationTags1
 pub mod DeclarationTags2
 pub mod DeclarationTags3

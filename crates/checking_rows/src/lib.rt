@@ -6,6 +6,7 @@ pub mod declaration_declarators2;
 pub mod declaration_declarators3;
 pub mod declaration_definitions1;
 pub mod declaration_definitions2;
+pub mod declaration_definitions3;
 pub mod declaration_names1;
 pub mod declaration_names2;
 pub mod declaration_names3;
