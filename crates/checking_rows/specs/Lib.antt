@@ -15,6 +15,8 @@ pub mod InitializerStatic
 pub mod InitializerFaults
 pub mod InitializerDesignated
 pub mod InitializerOrder
+pub mod InitializerLiterals
+pub mod InitializerBodies
 pub mod DeclarationParts
 pub mod DeclarationNames1
 pub mod DeclarationNames2
@@ -35,5 +37,3 @@ pub mod DeclarationDeclarators1
 pub mod DeclarationDeclarators2
 pub mod DeclarationDeclarators3
 pub mod DeclarationOrder
-pub mod InitializerLiterals
-pub mod InitializerBodies
