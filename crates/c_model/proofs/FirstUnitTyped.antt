@@ -17,7 +17,7 @@ use Rattle.model_core.specs.TypedScope.{Scope, moves_fit, expr_stands}
 use Rattle.model_core.specs.PartsIn.{Part, Designates, Operates, in_expr, parts_in, PlacesTell}
 use Rattle.model_core.specs.TypedCore.{TypedCore}
 use Rattle.model_tokens.specs.declared.tokens.CTok.{CTok}
-use Rattle.c_model.specs.FirstUnit.{IsSum, IsProduct, IsPrimary, IsConstant, one_product, added, subtracted, one_primary, multiplied, constant, parenthesised, IsUnit, UnitPlaces, places_of, returning, int_constant, int_operation}
+use Rattle.c_model.specs.FirstUnit.{IsSum, IsProduct, IsPrimary, IsConstant, one_product, added, subtracted, one_primary, multiplied, constant, parenthesised, IsUnit, UnitPlaces, places_of, returning, int_constant, int_operation, in_parentheses}
 use Rattle.model_core.specs.Core as unit
 
 abbrev is_operation : Part → Bool
@@ -57,6 +57,23 @@ operation_is_int op taken result moves a b p x y = record {
   parts = all_are (in_expr a) (in_expr b) x.parts y.parts;
 }
 
+-- parentheses leave what is asked of an expression
+parenthesised_is_int : (p : Place) (e : unit.Expr) → IsInt e → IsInt (in_parentheses p e)
+parenthesised_is_int p (unit.Constant value type mark) is = record { type = is.type; typed = is.typed; bound = is.bound; parts = is.parts }
+parenthesised_is_int p (unit.Binary op a b mark) is = record { type = is.type; typed = is.typed; bound = is.bound; parts = is.parts }
+parenthesised_is_int p (unit.Load object mark) is = is
+parenthesised_is_int p (unit.Address origin object mark) is = is
+parenthesised_is_int p (unit.FunctionRef id type by_name mark) is = is
+parenthesised_is_int p (unit.Unary op operand mark) is = is
+parenthesised_is_int p (unit.Logic op left right mark) is = is
+parenthesised_is_int p (unit.Choice condition first second mark) is = is
+parenthesised_is_int p (unit.Convert origin type operand mark) is = is
+parenthesised_is_int p (unit.Call function arguments mark) is = is
+parenthesised_is_int p (unit.Assign assignment object value mark) is = is
+parenthesised_is_int p (unit.Step op side type object mark) is = is
+parenthesised_is_int p (unit.MemberValue structure rank type name mark) is = is
+parenthesised_is_int p (unit.Comma first second mark) is = is
+
 mutual
   sum_is_int : (ts : List CTok) (e : unit.Expr) → IsSum ts e → IsInt e
   sum_is_int ts e (one_product us e' p) = product_is_int us e' p
@@ -69,7 +86,7 @@ mutual
 
   primary_is_int : (ts : List CTok) (e : unit.Expr) → IsPrimary ts e → IsInt e
   primary_is_int ts e (constant us t number is one) = constant_is_int number t.place (int_fits is)
-  primary_is_int ts e (parenthesised us open_ close inner e' o c s is) = sum_is_int inner e' s
+  primary_is_int ts e (parenthesised us open_ close inner e' o c s is) = parenthesised_is_int open_.place e' (sum_is_int inner e' s)
 
 returning_has_no_lvalue : (e : unit.Expr) (p : UnitPlaces) → IsInt e → (object : unit.Lvalue) → Contains (parts_in (returning e p)) (Designates object) → ⊥
 returning_has_no_lvalue e p is object = no_lvalue (parts_in (returning e p)) object (all_are (in_expr e ++ []) [] (all_are (in_expr e) [] is.parts refl) refl)

@@ -19,14 +19,15 @@ use Rattle.model_types.specs.Vocabulary.{word_number, punctuator_number, is_punc
 use Rattle.model_tokens.specs.PpSteps.{step_at}
 use Rattle.model_tokens.specs.PpTokens.{PpToken, tokens_of}
 use Rattle.model_tokens.specs.CTokens.{converted, c_tokens_of}
-use Rattle.c_model.specs.FirstUnit.{IsUnit, spelled, head_words, IsConstant, IsSum, IsProduct, IsPrimary, one_product, added, one_primary, multiplied, constant, int_constant, int_operation}
+use Rattle.c_model.specs.FirstUnit.{IsUnit, spelled, head_words, IsConstant, IsSum, IsProduct, IsPrimary, one_product, added, one_primary, multiplied, constant, parenthesised, int_constant, int_operation, in_parentheses}
+use Rattle.model_core.specs.Core.{Expr}
 use Rattle.model_core.specs.Types89.{int_type}
 use Rattle.model_c89.specs.Names89.{IsName}
 use Rattle.model_c89.specs.Typing89.{Typed}
 use Rattle.model_c89.specs.SpellingParts89.{declaration_text}
 use Rattle.model_c89.specs.Spelling89.{outers_text, canonical}
 use Rattle.model_c89.specs.Reading89.{Reads89}
-use Rattle.c_model.specs.FirstRow.{at, token, number, seven_text, seven_tokens, seven_core, seven_program, seven_written, overflow_tokens, overflow_core}
+use Rattle.c_model.specs.FirstRow.{at, token, number, seven_text, seven_tokens, seven_core, seven_program, seven_written, overflow_tokens, overflow_core, nine_tokens, nine_core}
 use Rattle.model_c89.proofs.Spelled.{program_reads}
 
 -- the words before `return`
@@ -159,6 +160,52 @@ overflow_is_a_unit = record {
   head_is = head_spelled;
   return_is = return_spelled;
   sum_is = overflow_sum_is;
+  semicolon_is = semicolon_spelled;
+  brace_is = brace_spelled;
+  core_is = refl;
+}
+
+open_spelled : spelled (codes "(") ≡ Ok (Punct 3)
+unfolding spelled word_number punctuator_number
+open_spelled = refl
+
+close_spelled : spelled (codes ")") ≡ Ok (Punct 4)
+unfolding spelled word_number punctuator_number
+close_spelled = refl
+
+abbrev one_and_two : List CTok
+one_and_two = number 1 refl 26 8 ∷ token (Punct 38) 28 9 ∷ number 2 refl 30 10 ∷ []
+
+abbrev in_them : List CTok
+in_them = token (Punct 3) 25 7 ∷ (one_and_two ++ token (Punct 4) 31 11 ∷ [])
+
+abbrev one_plus_two : Expr
+one_plus_two = int_operation Add (int_constant (pos 1) (at 26 8)) (int_constant (pos 2) (at 30 10)) (at 28 9)
+
+one_plus_two_is : IsSum one_and_two one_plus_two
+one_plus_two_is = added one_and_two (number 1 refl 26 8 ∷ []) (number 2 refl 30 10 ∷ []) (token (Punct 38) 28 9) _ _ plus_spelled (sum_of 1 refl 26 8) (product_of 2 refl 30 10) refl
+
+in_them_is : IsProduct in_them (in_parentheses (at 25 7) one_plus_two)
+in_them_is = one_primary in_them _ (parenthesised in_them (token (Punct 3) 25 7) (token (Punct 4) 31 11) one_and_two one_plus_two open_spelled close_spelled one_plus_two_is refl)
+
+abbrev nine_sum : List CTok
+nine_sum = in_them ++ (token (Punct 11) 33 12 ∷ number 3 refl 35 13 ∷ [])
+
+nine_sum_is : IsSum nine_sum (int_operation Mul (in_parentheses (at 25 7) one_plus_two) (int_constant (pos 3) (at 35 13)) (at 33 12))
+nine_sum_is = one_product nine_sum _ (multiplied nine_sum in_them (number 3 refl 35 13 ∷ []) (token (Punct 11) 33 12) _ _ times_spelled in_them_is (primary_of 3 refl 35 13) refl)
+
+pub nine_is_a_unit : IsUnit nine_tokens nine_core
+nine_is_a_unit = record {
+  head = head;
+  return_ = token (Word 39) 18 6;
+  sum = nine_sum;
+  semicolon = token (Punct 2) 36 14;
+  brace = token (Punct 8) 38 15;
+  value = _;
+  parts = refl;
+  head_is = head_spelled;
+  return_is = return_spelled;
+  sum_is = nine_sum_is;
   semicolon_is = semicolon_spelled;
   brace_is = brace_spelled;
   core_is = refl;

@@ -1,4 +1,4 @@
--- Two first units, worked by hand: their texts, tokens, cores and programs.
+-- Three first units, worked by hand: their texts, tokens, cores and programs.
 use Rattle.std.specs.Prelude.{◌≡◌, ℕ, pos, true, false, List, [], ◌∷◌, ◌++◌, codes, None, refl}
 use Rattle.cake_base.specs.declared.places.Place.{Place}
 use Rattle.model_types.specs.declared.numbers.Basic.TheVariants.{Int}
@@ -6,7 +6,8 @@ use Rattle.model_types.specs.declared.numbers.BinOp.TheVariants.{Mul, Add}
 use Rattle.model_tokens.specs.declared.tokens.CKind.{CKind}
 use Rattle.model_tokens.specs.declared.tokens.CKind.TheVariants.{Word, Name, Integer, Punct}
 use Rattle.model_tokens.specs.declared.tokens.CTok.{CTok}
-use Rattle.model_core.specs.Core.{Core}
+use Rattle.model_core.specs.CoreTypes.{int_type as int}
+use Rattle.model_core.specs.Core.{Core, Expr, Constant, Binary}
 use Rattle.model_types.specs.Operations.{fits}
 use Rattle.c_model.specs.FirstUnit.{UnitPlaces, returning, int_constant, int_operation}
 use Rattle.model_core.specs.Types89.{Function, no_types, int_type}
@@ -80,3 +81,24 @@ overflow_tokens =
 
 abbrev pub overflow_core : Core
 overflow_core = returning (int_operation Add (int_constant (pos 2147483647) (at 25 7)) (int_constant (pos 1) (at 38 9)) (at 36 8)) (places_to 41 11)
+
+-- `int main(void) { return (1 + 2) * 3; }`
+abbrev pub nine_tokens : List CTok
+nine_tokens =
+    front_tokens
+    ++ (token (Punct 3) 25 7 ∷ number 1 refl 26 8 ∷ token (Punct 38) 28 9 ∷ number 2 refl 30 10 ∷ token (Punct 4) 31 11 ∷
+    token (Punct 11) 33 12 ∷ number 3 refl 35 13 ∷ token (Punct 2) 36 14 ∷ token (Punct 8) 38 15 ∷ [])
+
+-- a constant stands at its token, whatever stands round it
+abbrev pub plain_constant : (value : ℕ) → Place → Expr
+plain_constant value place = Constant (pos value) int (record { at = place; first = place; outer = place })
+
+-- `1 + 2` begins at its 1, and with its parentheses at the first of them, where the product begins too
+abbrev pub nine_core : Core
+nine_core =
+    returning
+    (Binary Mul
+    (Binary Add (plain_constant 1 (at 26 8)) (plain_constant 2 (at 30 10)) (record { at = at 28 9; first = at 26 8; outer = at 25 7 }))
+    (plain_constant 3 (at 35 13))
+    (record { at = at 33 12; first = at 25 7; outer = at 25 7 }))
+    (places_to 38 15)

@@ -12,6 +12,7 @@ use Rattle.model_tokens.specs.declared.tokens.CKind.TheVariants.{Integer}
 use Rattle.model_tokens.specs.declared.tokens.CTok.{CTok}
 use Rattle.model_tokens.specs.declared.tokens.TokenRule.{TokenRule}
 use Rattle.model_core.specs.CoreTypes.{int_type, plain}
+use Rattle.model_core.specs.SourceMarks.{expr_mark}
 use Rattle.model_types.specs.Types.{CType, Function as FunctionForm, no_types}
 use Rattle.model_tokens.specs.CTokens.{is_identifier, name_token, punctuator_token}
 use Rattle.model_core.specs.Core.{Expr, Constant, Binary, Return, Block, an_expr, a_stat, stats, Named, Core}
@@ -30,16 +31,24 @@ pub record IsConstant (token : CTok) (number : ℕ) : Type 0 where
   pub basic : constant.basic ≡ Int
   pub value : constant.value ≡ pos number
 
--- the mark of an expression; these units have no rule that asks for its first tokens
+-- the mark of a token that is an expression
 abbrev pub mark_at : Place → Mark
 mark_at place = record { at = place; first = place; outer = place }
 
--- a constant of type int, and an operation on two values of it, at their places
+-- a constant of type int, and an operation on two values of it, with the place of its operator: it begins with
+-- its left operand, the parentheses round that counted
 abbrev pub int_constant : ℤ → Place → Expr
 int_constant value place = Constant value int_type (mark_at place)
 
 abbrev pub int_operation : BinOp → Expr → Expr → Place → Expr
-int_operation op left right place = Binary op left right (mark_at place)
+int_operation op left right place =
+    Binary op left right (record { at = place; first = (expr_mark left).outer; outer = (expr_mark left).outer })
+
+-- a constant or an operation in parentheses, by the place of the first one
+abbrev pub in_parentheses : Place → Expr → Expr
+in_parentheses place (Constant value type mark) = Constant value type (record mark { outer = place })
+in_parentheses place (Binary op left right mark) = Binary op left right (record mark { outer = place })
+in_parentheses place e = e
 
 -- `int (void)`
 abbrev pub main_type : CType
@@ -60,7 +69,7 @@ mutual
   -- primary = constant | "(" sum ")"
   pub data IsPrimary : List CTok → Expr → Type 0 where
     constant : (ts : List CTok) (token : CTok) (number : ℕ) → IsConstant token number → ts ≡ token ∷ [] → IsPrimary ts (int_constant (pos number) token.place)
-    parenthesised : (ts : List CTok) (open_ close : CTok) (inner : List CTok) (e : Expr) → IsSpelled (codes "(") open_ → IsSpelled (codes ")") close → IsSum inner e → ts ≡ open_ ∷ (inner ++ close ∷ []) → IsPrimary ts e
+    parenthesised : (ts : List CTok) (open_ close : CTok) (inner : List CTok) (e : Expr) → IsSpelled (codes "(") open_ → IsSpelled (codes ")") close → IsSum inner e → ts ≡ open_ ∷ (inner ++ close ∷ []) → IsPrimary ts (in_parentheses open_.place e)
 
 -- the words of a unit before its `return`
 abbrev pub head_words : List (List ℕ)

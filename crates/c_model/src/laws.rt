@@ -11,7 +11,7 @@ ghost use Rattle.model_tokens.specs.declared.tokens.CTok.{CTok};
 ghost use Rattle.c_model.specs.FirstUnit.{IsUnit};
 ghost use Rattle.model_tokens.specs.PpTokens.{PpToken, tokens_of};
 ghost use Rattle.model_tokens.specs.CTokens.{c_tokens_of};
-ghost use Rattle.c_model.specs.FirstRow.{at, seven_text, seven_tokens, seven_core, seven_program, seven_written, overflow_tokens, overflow_core};
+ghost use Rattle.c_model.specs.FirstRow.{at, seven_text, seven_tokens, seven_core, seven_program, seven_written, overflow_tokens, overflow_core, nine_tokens, nine_core};
 
 use model_types::outcomes::Cause;
 
@@ -34,6 +34,11 @@ pub fn seven_returns_7()
 pub fn seven_is_written()
     ensures reads { Reads89 seven_written seven_program }
     ensures runs { (world : List ℤ) → run89 1 seven_program (codes "main") [] world ≡ record { events = []; moves = []; ending = Returned (Single (Number (pos 7))) } }
+{}
+
+/// The places of an expression in parentheses, and of one that begins with it, written out.
+pub fn parentheses_have_places()
+    ensures { IsUnit nine_tokens nine_core }
 {}
 
 /// The core of every first unit is typed.

@@ -9,9 +9,9 @@ use Rattle.model_tokens.specs.declared.tokens.CKind.{CKind}
 use Rattle.model_tokens.specs.declared.tokens.CKind.TheVariants.{Word, Name, Punct}
 use Rattle.model_tokens.specs.declared.tokens.CTok.{CTok}
 use Rattle.model_tokens.specs.declared.tokens.TokenRule.{TokenRule}
-use Rattle.c_model.specs.FirstUnit.{IsSpelled, IsSum, IsProduct, IsPrimary, one_product, added, subtracted, one_primary, multiplied, constant, parenthesised, returning, places_of, IsConstant, IsUnit, int_constant, int_operation}
+use Rattle.c_model.specs.FirstUnit.{IsSpelled, IsSum, IsProduct, IsPrimary, one_product, added, subtracted, one_primary, multiplied, constant, parenthesised, returning, places_of, IsConstant, IsUnit, int_constant, int_operation, in_parentheses}
 use Rattle.model_core.specs.Core.{Core}
-use Rattle.cake_cli.specs.Reader.{Front, Operand, Operator, Whole, Waiting, Open, nothing_open, joined, closed, front_rank, past_sign}
+use Rattle.cake_cli.specs.Reader.{Front, Operand, Operator, Whole, Waiting, Open, Enclosing, nothing_open, joined, closed, front_rank, past_sign}
 use Rattle.cake_cli.specs.Sorts.{Sign, sort_of}
 use Rattle.cake_cli.proofs.SortLaws.{front_kinds, head_kinds, return_sort, times_sort, plus_sort, minus_sort}
 use Rattle.cake_cli.proofs.Steps.{go, go-append, word_step, constant_step, open_step, close_step, end_step, brace_step, sign_step}
@@ -21,15 +21,15 @@ waits sum product = record { sum = sum; product = product }
 
 -- what reading a sum leaves, and a product behind a sum that waits
 abbrev ReadsSum : List CTok → Expr → Type 0
-ReadsSum ts e = (outer : List Open) → (last : Expr) × (here : Open) × (go (Some (Operand nothing_open outer)) ts ≡ Some (Operator last here outer)) × (closed here last ≡ e)
+ReadsSum ts e = (outer : List Enclosing) → (last : Expr) × (here : Open) × (go (Some (Operand nothing_open outer)) ts ≡ Some (Operator last here outer)) × (closed here last ≡ e)
 
 abbrev ReadsProduct : List CTok → Expr → Type 0
-ReadsProduct ts e = (sum : Option Waiting) (outer : List Open) → (last : Expr) × (product : Option Waiting) × (go (Some (Operand (waits sum None) outer)) ts ≡ Some (Operator last (waits sum product) outer)) × (joined product last ≡ e)
+ReadsProduct ts e = (sum : Option Waiting) (outer : List Enclosing) → (last : Expr) × (product : Option Waiting) × (go (Some (Operand (waits sum None) outer)) ts ≡ Some (Operator last (waits sum product) outer)) × (joined product last ≡ e)
 
 abbrev ReadsPrimary : List CTok → Expr → Type 0
-ReadsPrimary ts e = (here : Open) (outer : List Open) → go (Some (Operand here outer)) ts ≡ Some (Operator e here outer)
+ReadsPrimary ts e = (here : Open) (outer : List Enclosing) → go (Some (Operand here outer)) ts ≡ Some (Operator e here outer)
 
-additive_read : (op : BinOp) (left right : List CTok) (t : CTok) (a b : Expr) → ((last : Expr) (here : Open) (outer : List Open) → past_sign op t.place last here outer ≡ Operand (waits (Some (record { op = op; left = closed here last; place = t.place })) None) outer) → sort_of t.kind ≡ Sign op → ReadsSum left a → ReadsProduct right b → ReadsSum (left ++ t ∷ right) (int_operation op a b t.place)
+additive_read : (op : BinOp) (left right : List CTok) (t : CTok) (a b : Expr) → ((last : Expr) (here : Open) (outer : List Enclosing) → past_sign op t.place last here outer ≡ Operand (waits (Some (record { op = op; left = closed here last; place = t.place })) None) outer) → sort_of t.kind ≡ Sign op → ReadsSum left a → ReadsProduct right b → ReadsSum (left ++ t ∷ right) (int_operation op a b t.place)
 additive_read op left right t a b additive sign first second outer =
     let l = first outer in
     let w : Waiting = record { op = op; left = closed l.1 l.0; place = t.place } in
@@ -56,14 +56,15 @@ product_read_more left right t a b sign first second sum outer =
       ap (λ x. int_operation Mul x b t.place) l.3,
     )
 
-parenthesised_read : (l r : CTok) (inner : List CTok) (e : Expr) → IsSpelled (codes "(") l → IsSpelled (codes ")") r → ReadsSum inner e → ReadsPrimary (l ∷ (inner ++ r ∷ [])) e
+parenthesised_read : (l r : CTok) (inner : List CTok) (e : Expr) → IsSpelled (codes "(") l → IsSpelled (codes ")") r → ReadsSum inner e → ReadsPrimary (l ∷ (inner ++ r ∷ [])) (in_parentheses l.place e)
 parenthesised_read l r inner e begins ends read here outer =
-    let sum = read (here ∷ outer) in
+    let around : Enclosing = record { here = here; parenthesis = l.place } in
+    let sum = read (around ∷ outer) in
     ap (λ o. go o (inner ++ r ∷ [])) (open_step l here outer begins)
-    ∙ go-append (Some (Operand nothing_open (here ∷ outer))) inner (r ∷ [])
+    ∙ go-append (Some (Operand nothing_open (around ∷ outer))) inner (r ∷ [])
     ∙ ap (λ o. go o (r ∷ [])) sum.2
-    ∙ close_step r sum.0 sum.1 here outer ends
-    ∙ ap (λ x. Some (Operator x here outer)) sum.3
+    ∙ close_step r sum.0 sum.1 around outer ends
+    ∙ ap (λ x. Some (Operator (in_parentheses l.place x) here outer)) sum.3
 
 product_as_sum : (ts : List CTok) (e : Expr) → ReadsProduct ts e → ReadsSum ts e
 product_as_sum ts e read outer = let r = read None outer in (r.0, waits None r.1, r.2, r.3)
@@ -90,7 +91,7 @@ mutual
   primary_read : (ts : List CTok) (e : Expr) → IsPrimary ts e → ReadsPrimary ts e
   primary_read ts e (constant us t n number is) = constant_as_primary us t n number is
   primary_read ts e (parenthesised us l r inner e' begins ends sum is) =
-      subst (λ vs. ReadsPrimary vs e') (sym is) (parenthesised_read l r inner e' begins ends (sum_read inner e' sum))
+      subst (λ vs. ReadsPrimary vs (in_parentheses l.place e')) (sym is) (parenthesised_read l r inner e' begins ends (sum_read inner e' sum))
 
 -- the words before the expression
 front_read : (head : List CTok) (r : CTok) → map (λ t. Ok t.kind) head ≡ take 6 front_kinds → IsSpelled (codes "return") r → go (Some (Front 0)) (head ++ r ∷ []) ≡ Some (Operand nothing_open [])

@@ -159,13 +159,13 @@ takes_ints structures BitXor m n = refl
 takes_ints structures BitOr m n = refl
 
 is_int : (e : Expr) → type_of (expr_of e) ≡ int23
-is_int (Constant number place) = refl
-is_int (Binary' op p a q b place) =
+is_int (Constant number mark) = refl
+is_int (Binary' op p a q b mark) =
     ap (λ t. binary23 op t (type_of (expr_of b))) (is_int a) ∙ ap (binary23 op int23) (is_int b) ∙ binary_is_int op
 
 is_written_int : (names : Names) (e : Expr) → value_type names (target_of e) ≡ int89
-is_written_int names (Constant number place) = refl
-is_written_int names (Binary' op p a q b place) =
+is_written_int names (Constant number mark) = refl
+is_written_int names (Binary' op p a q b mark) =
     ap (λ t. decayed (binary89 op t (value_type names (target_of b)))) (is_written_int names a)
     ∙ ap (λ t. decayed (binary89 op int89 t)) (is_written_int names b)
     ∙ ap decayed (written_is_int op)
@@ -181,11 +181,11 @@ module _ (f : source_frame.Frame) (g : target_frame.Frame) where
   operand_same e m n s same = follow_same (m s) (n s) _ _ same (scalar_same (at_mark (expr_mark e)))
 
   value_same : (e : Expr) (s : State) → Follows (source_values.evaluate f (expr_of e) s) (target_values.evaluate g (target_of e) s)
-  value_same (Constant number place) s = inr refl
-  value_same (Binary' op p a q b place) s =
+  value_same (Constant number mark) s = inr refl
+  value_same (Binary' op p a q b mark) s =
       follow_same (source_values.operand (expr_of a) (source_values.evaluate f (expr_of a)) s) (target_values.operand (target_values.evaluate g (target_of a)) s) _ _ (operand_same (expr_of a) (source_values.evaluate f (expr_of a)) (target_values.evaluate g (target_of a)) s (value_same a s)) (λ x s1.
       follow_same (source_values.operand (expr_of b) (source_values.evaluate f (expr_of b)) s1) (target_values.operand (target_values.evaluate g (target_of b)) s1) _ _ (operand_same (expr_of b) (source_values.evaluate f (expr_of b)) (target_values.evaluate g (target_of b)) s1 (value_same b s1)) (λ y s2.
-      applied_same f g op (mark_at place) (type_of (expr_of a)) (type_of (expr_of b)) (value_type g.names (target_of a)) (value_type g.names (target_of b)) (is_int a) (is_int b) (is_written_int g.names a) (is_written_int g.names b) x y s2))
+      applied_same f g op mark (type_of (expr_of a)) (type_of (expr_of b)) (value_type g.names (target_of a)) (value_type g.names (target_of b)) (is_int a) (is_int b) (is_written_int g.names a) (is_written_int g.names b) x y s2))
 
   -- a returned value is the result's already
   as_it_is : (t : Type89) (v : Value) → t ≡ int89 → target_operations.value_as t int89 v ≡ v

@@ -12,9 +12,9 @@ use Rattle.model_tokens.specs.declared.tokens.CKind.TheVariants.{Word, Name, Int
 use Rattle.model_tokens.specs.declared.tokens.CTok.{CTok}
 use Rattle.model_tokens.specs.declared.tokens.TokenRule.{TokenRule}
 use Rattle.model_core.specs.Core.{Expr}
-use Rattle.c_model.specs.FirstUnit.{UnitPlaces, places_of, spelled, IsSpelled, IsSum, IsProduct, IsPrimary, one_product, added, subtracted, one_primary, multiplied, constant, parenthesised, head_words, returning, IsUnit, CanGoOn, int_constant, int_operation}
+use Rattle.c_model.specs.FirstUnit.{UnitPlaces, places_of, spelled, IsSpelled, IsSum, IsProduct, IsPrimary, one_product, added, subtracted, one_primary, multiplied, constant, parenthesised, head_words, returning, IsUnit, CanGoOn, int_constant, int_operation, in_parentheses}
 use Rattle.cake_cli.specs.Sorts.{Sort, IntWord, MainName, OpenParenthesis, VoidWord, CloseParenthesis, OpenBrace, ReturnWord, Constant, Sign, Semicolon, CloseBrace, Other, sort_of}
-use Rattle.cake_cli.specs.Reader.{Stage, Front, Operand, Operator, Tail, Whole, Waiting, Open, nothing_open, joined, closed, front_rank, past_word, past_sum, past_product, past_sign, past_close, past_end, past_begin, past_operand, past_tail, read_token}
+use Rattle.cake_cli.specs.Reader.{Stage, Front, Operand, Operator, Tail, Whole, Waiting, Open, Enclosing, nothing_open, joined, closed, front_rank, past_word, past_sum, past_product, past_sign, past_close, past_end, past_begin, past_operand, past_tail, read_token}
 use Rattle.cake_cli.proofs.SortLaws.{front_kinds, head_kinds, front_word, seventh_is_return, SignIs, is_open, is_close, is_brace, is_semicolon, is_constant, is_sign}
 use Rattle.cake_cli.proofs.Steps.{go, go-append, go-None}
 
@@ -38,9 +38,9 @@ record OpenFront (here : Open) (ts : List CTok) : Type 0 where
   parts : ts ≡ first ++ second
 
 -- the tokens up to the innermost opening parenthesis
-data OuterFront : List Open → List CTok → Type 0 where
+data OuterFront : List Enclosing → List CTok → Type 0 where
   no_outer : OuterFront [] []
-  more_outer : (here : Open) (outer : List Open) (first second : List CTok) (l : CTok) → OuterFront outer first → OpenFront here second → IsSpelled (codes "(") l → OuterFront (here ∷ outer) (first ++ (second ++ l ∷ []))
+  more_outer : (here : Open) (outer : List Enclosing) (first second : List CTok) (l : CTok) → OuterFront outer first → OpenFront here second → IsSpelled (codes "(") l → OuterFront (record { here = here; parenthesis = l.place } ∷ outer) (first ++ (second ++ l ∷ []))
 
 -- the words before the expression
 record WordsFront (ts : List CTok) : Type 0 where
@@ -50,7 +50,7 @@ record WordsFront (ts : List CTok) : Type 0 where
   head_is : map (λ t. Ok t.kind) head ≡ map spelled head_words
   return_is : IsSpelled (codes "return") return_
 
-record OperandFront (here : Open) (outer : List Open) (ts : List CTok) : Type 0 where
+record OperandFront (here : Open) (outer : List Enclosing) (ts : List CTok) : Type 0 where
   first : List CTok
   second : List CTok
   third : List CTok
@@ -59,7 +59,7 @@ record OperandFront (here : Open) (outer : List Open) (ts : List CTok) : Type 0 
   here_is : OpenFront here third
   parts : ts ≡ first ++ (second ++ third)
 
-record OperatorFront (operand : Expr) (here : Open) (outer : List Open) (ts : List CTok) : Type 0 where
+record OperatorFront (operand : Expr) (here : Open) (outer : List Enclosing) (ts : List CTok) : Type 0 where
   before : List CTok
   last : List CTok
   front : OperandFront here outer before
@@ -155,7 +155,7 @@ word_keeps : (count : ℕ) (ts : List CTok) (t : CTok) → Holds (Front count) t
 word_keeps count ts t holds is = word_keeps_by (count == 6) count ts t refl holds is
 
 -- the whole sum up to a sign
-additive_keeps : (op : BinOp) (ts : List CTok) (t : CTok) (e : Expr) (here : Open) (outer : List Open) → Holds (Operator e here outer) ts → ((left : List CTok) (a : Expr) → IsSum left a → SumFront (Some (record { op = op; left = a; place = t.place })) (left ++ t ∷ [])) → Holds (Operand (past_sum op t.place e here) outer) (ts ++ t ∷ [])
+additive_keeps : (op : BinOp) (ts : List CTok) (t : CTok) (e : Expr) (here : Open) (outer : List Enclosing) → Holds (Operator e here outer) ts → ((left : List CTok) (a : Expr) → IsSum left a → SumFront (Some (record { op = op; left = a; place = t.place })) (left ++ t ∷ [])) → Holds (Operand (past_sum op t.place e here) outer) (ts ++ t ∷ [])
 additive_keeps op ts t e here outer holds waits = record {
   first = holds.front.first;
   second = holds.front.second;
@@ -172,7 +172,7 @@ additive_keeps op ts t e here outer holds waits = record {
   parts = ap (λ vs. vs ++ t ∷ []) (holds.parts ∙ ap (λ vs. vs ++ holds.last) holds.front.parts) ∙ simp append_assoc;
 }
 
-times_keeps : (ts : List CTok) (t : CTok) (e : Expr) (here : Open) (outer : List Open) → Holds (Operator e here outer) ts → IsSpelled (codes "*") t → Holds (Operand (past_product t.place e here) outer) (ts ++ t ∷ [])
+times_keeps : (ts : List CTok) (t : CTok) (e : Expr) (here : Open) (outer : List Enclosing) → Holds (Operator e here outer) ts → IsSpelled (codes "*") t → Holds (Operand (past_product t.place e here) outer) (ts ++ t ∷ [])
 times_keeps ts t e here outer holds is = record {
   first = holds.front.first;
   second = holds.front.second;
@@ -189,7 +189,7 @@ times_keeps ts t e here outer holds is = record {
   parts = ap (λ vs. vs ++ t ∷ []) (holds.parts ∙ ap (λ vs. vs ++ holds.last) holds.front.parts) ∙ simp append_assoc;
 }
 
-sign_keeps : (op : BinOp) (ts : List CTok) (t : CTok) (e : Expr) (here : Open) (outer : List Open) → Holds (Operator e here outer) ts → SignIs op t → Holds (past_sign op t.place e here outer) (ts ++ t ∷ [])
+sign_keeps : (op : BinOp) (ts : List CTok) (t : CTok) (e : Expr) (here : Open) (outer : List Enclosing) → Holds (Operator e here outer) ts → SignIs op t → Holds (past_sign op t.place e here outer) (ts ++ t ∷ [])
 sign_keeps Mul ts t e here outer holds is = times_keeps ts t e here outer holds is
 sign_keeps Add ts t e here outer holds is = additive_keeps Add ts t e here outer holds (λ left a sum. plus left t a sum is)
 sign_keeps Sub ts t e here outer holds is = additive_keeps Sub ts t e here outer holds (λ left a sum. minus left t a sum is)
@@ -207,29 +207,30 @@ sign_keeps BitAnd ts t e here outer holds is = absurd is
 sign_keeps BitXor ts t e here outer holds is = absurd is
 sign_keeps BitOr ts t e here outer holds is = absurd is
 
-record OuterParts (next : Open) (outer : List Open) (ts : List CTok) : Type 0 where
+record OuterParts (around : Enclosing) (outer : List Enclosing) (ts : List CTok) : Type 0 where
   first : List CTok
   second : List CTok
   l : CTok
   outer_is : OuterFront outer first
-  here_is : OpenFront next second
+  here_is : OpenFront around.here second
   l_is : IsSpelled (codes "(") l
+  place : l.place ≡ around.parenthesis
   parts : ts ≡ first ++ (second ++ l ∷ [])
 
-outer_parts : (next : Open) (outer : List Open) (ts : List CTok) → OuterFront (next ∷ outer) ts → OuterParts next outer ts
-outer_parts next outer ts (more_outer h o first second l a b c) = record { first = first; second = second; l = l; outer_is = a; here_is = b; l_is = c; parts = refl }
+outer_parts : (around : Enclosing) (outer : List Enclosing) (ts : List CTok) → OuterFront (around ∷ outer) ts → OuterParts around outer ts
+outer_parts around outer ts (more_outer h o first second l a b c) = record { first = first; second = second; l = l; outer_is = a; here_is = b; l_is = c; place = refl; parts = refl }
 
 outer_none : (ts : List CTok) → OuterFront [] ts → ts ≡ []
 outer_none ts no_outer = refl
 
-close_keeps : (ts : List CTok) (t : CTok) (e : Expr) (here next : Open) (outer : List Open) → Holds (Operator e here (next ∷ outer)) ts → IsSpelled (codes ")") t → Holds (Operator (closed here e) next outer) (ts ++ t ∷ [])
-close_keeps ts t e here next outer holds is =
-    let o = outer_parts next outer holds.front.second holds.front.outer_is in
+close_keeps : (ts : List CTok) (t : CTok) (e : Expr) (here : Open) (around : Enclosing) (outer : List Enclosing) → Holds (Operator e here (around ∷ outer)) ts → IsSpelled (codes ")") t → Holds (Operator (in_parentheses around.parenthesis (closed here e)) around.here outer) (ts ++ t ∷ [])
+close_keeps ts t e here around outer holds is =
+    let o = outer_parts around outer holds.front.second holds.front.outer_is in
     record {
       before = holds.front.first ++ (o.first ++ o.second);
       last = o.l ∷ ((holds.front.third ++ holds.last) ++ t ∷ []);
       front = record { first = holds.front.first; second = o.first; third = o.second; words = holds.front.words; outer_is = o.outer_is; here_is = o.here_is; parts = refl };
-      primary = parenthesised (o.l ∷ ((holds.front.third ++ holds.last) ++ t ∷ [])) o.l t (holds.front.third ++ holds.last) (closed here e) o.l_is is (open_closed here holds.front.third holds.last e holds.front.here_is holds.primary) refl;
+      primary = subst (λ p. IsPrimary (o.l ∷ ((holds.front.third ++ holds.last) ++ t ∷ [])) (in_parentheses p (closed here e))) o.place (parenthesised (o.l ∷ ((holds.front.third ++ holds.last) ++ t ∷ [])) o.l t (holds.front.third ++ holds.last) (closed here e) o.l_is is (open_closed here holds.front.third holds.last e holds.front.here_is holds.primary) refl);
       parts = ap (λ vs. vs ++ t ∷ []) (holds.parts ∙ ap (λ vs. vs ++ holds.last) (holds.front.parts ∙ ap (λ vs. holds.front.first ++ (vs ++ holds.front.third)) o.parts)) ∙ simp append_assoc;
     }
 
@@ -244,7 +245,7 @@ end_keeps ts t e here holds is = record {
   parts = ap (λ vs. vs ++ t ∷ []) (holds.parts ∙ ap (λ vs. vs ++ holds.last) (holds.front.parts ∙ ap (λ vs. holds.front.first ++ (vs ++ holds.front.third)) (outer_none holds.front.second holds.front.outer_is))) ∙ simp append_assoc;
 }
 
-open_keeps : (ts : List CTok) (t : CTok) (here : Open) (outer : List Open) → Holds (Operand here outer) ts → IsSpelled (codes "(") t → Holds (Operand nothing_open (here ∷ outer)) (ts ++ t ∷ [])
+open_keeps : (ts : List CTok) (t : CTok) (here : Open) (outer : List Enclosing) → Holds (Operand here outer) ts → IsSpelled (codes "(") t → Holds (Operand nothing_open (record { here = here; parenthesis = t.place } ∷ outer)) (ts ++ t ∷ [])
 open_keeps ts t here outer holds is = record {
   first = holds.first;
   second = holds.second ++ (holds.third ++ t ∷ []);
@@ -255,7 +256,7 @@ open_keeps ts t here outer holds is = record {
   parts = ap (λ vs. vs ++ t ∷ []) holds.parts ∙ simp append_assoc;
 }
 
-constant_keeps : (ts : List CTok) (t : CTok) (number : ℕ) (here : Open) (outer : List Open) → Holds (Operand here outer) ts → sort_of t.kind ≡ Constant number → Holds (Operator (int_constant (pos number) t.place) here outer) (ts ++ t ∷ [])
+constant_keeps : (ts : List CTok) (t : CTok) (number : ℕ) (here : Open) (outer : List Enclosing) → Holds (Operand here outer) ts → sort_of t.kind ≡ Constant number → Holds (Operator (int_constant (pos number) t.place) here outer) (ts ++ t ∷ [])
 constant_keeps ts t number here outer holds is = record {
   before = ts;
   last = t ∷ [];
@@ -290,9 +291,9 @@ if_some : (b : Bool) (stage next : Stage) → (if b then Some stage else None) �
 if_some true stage next e = (refl, (cc))
 if_some false stage next e = absurd (let h : None ≡ Some next = e in cc)
 
-operand_keeps_by : (sort : Sort) (ts : List CTok) (t : CTok) (here : Open) (outer : List Open) (next : Stage) → Holds (Operand here outer) ts → sort_of t.kind ≡ sort → past_begin sort t.place here outer ≡ Some next → Holds next (ts ++ t ∷ [])
+operand_keeps_by : (sort : Sort) (ts : List CTok) (t : CTok) (here : Open) (outer : List Enclosing) (next : Stage) → Holds (Operand here outer) ts → sort_of t.kind ≡ sort → past_begin sort t.place here outer ≡ Some next → Holds next (ts ++ t ∷ [])
 operand_keeps_by OpenParenthesis ts t here outer next holds is e =
-    subst (λ s. Holds s (ts ++ t ∷ [])) (let same : Operand nothing_open (here ∷ outer) ≡ next = cc in same) (open_keeps ts t here outer holds (is_open t is))
+    subst (λ s. Holds s (ts ++ t ∷ [])) (let same : Operand nothing_open (record { here = here; parenthesis = t.place } ∷ outer) ≡ next = cc in same) (open_keeps ts t here outer holds (is_open t is))
 operand_keeps_by (Constant number) ts t here outer next holds is e =
     subst (λ s. Holds s (ts ++ t ∷ [])) (let same : Operator (int_constant (pos number) t.place) here outer ≡ next = cc in same) (constant_keeps ts t number here outer holds is)
 operand_keeps_by IntWord ts t here outer next holds is e = absurd (let h : None ≡ Some next = e in cc)
@@ -306,15 +307,15 @@ operand_keeps_by Semicolon ts t here outer next holds is e = absurd (let h : Non
 operand_keeps_by CloseBrace ts t here outer next holds is e = absurd (let h : None ≡ Some next = e in cc)
 operand_keeps_by Other ts t here outer next holds is e = absurd (let h : None ≡ Some next = e in cc)
 
-close_keeps_by : (ts : List CTok) (t : CTok) (e : Expr) (here : Open) (outer : List Open) (next : Stage) → Holds (Operator e here outer) ts → IsSpelled (codes ")") t → past_close e here outer ≡ Some next → Holds next (ts ++ t ∷ [])
+close_keeps_by : (ts : List CTok) (t : CTok) (e : Expr) (here : Open) (outer : List Enclosing) (next : Stage) → Holds (Operator e here outer) ts → IsSpelled (codes ")") t → past_close e here outer ≡ Some next → Holds next (ts ++ t ∷ [])
 close_keeps_by ts t e here [] next holds is eq = absurd (let h : None ≡ Some next = eq in cc)
-close_keeps_by ts t e here (o ∷ outer) next holds is eq = subst (λ s. Holds s (ts ++ t ∷ [])) (let same : Operator (closed here e) o outer ≡ next = cc in same) (close_keeps ts t e here o outer holds is)
+close_keeps_by ts t e here (o ∷ outer) next holds is eq = subst (λ s. Holds s (ts ++ t ∷ [])) (let same : Operator (in_parentheses o.parenthesis (closed here e)) o.here outer ≡ next = cc in same) (close_keeps ts t e here o outer holds is)
 
-end_keeps_by : (ts : List CTok) (t : CTok) (e : Expr) (here : Open) (outer : List Open) (next : Stage) → Holds (Operator e here outer) ts → IsSpelled (codes ";") t → past_end e here outer ≡ Some next → Holds next (ts ++ t ∷ [])
+end_keeps_by : (ts : List CTok) (t : CTok) (e : Expr) (here : Open) (outer : List Enclosing) (next : Stage) → Holds (Operator e here outer) ts → IsSpelled (codes ";") t → past_end e here outer ≡ Some next → Holds next (ts ++ t ∷ [])
 end_keeps_by ts t e here [] next holds is eq = subst (λ s. Holds s (ts ++ t ∷ [])) (let same : Tail (closed here e) ≡ next = cc in same) (end_keeps ts t e here holds is)
 end_keeps_by ts t e here (o ∷ outer) next holds is eq = absurd (let h : None ≡ Some next = eq in cc)
 
-operator_keeps_by : (sort : Sort) (ts : List CTok) (t : CTok) (e : Expr) (here : Open) (outer : List Open) (next : Stage) → Holds (Operator e here outer) ts → sort_of t.kind ≡ sort → past_operand sort t.place e here outer ≡ Some next → Holds next (ts ++ t ∷ [])
+operator_keeps_by : (sort : Sort) (ts : List CTok) (t : CTok) (e : Expr) (here : Open) (outer : List Enclosing) (next : Stage) → Holds (Operator e here outer) ts → sort_of t.kind ≡ sort → past_operand sort t.place e here outer ≡ Some next → Holds next (ts ++ t ∷ [])
 operator_keeps_by (Sign op) ts t e here outer next holds is eq =
     subst (λ s. Holds s (ts ++ t ∷ [])) (let same : past_sign op t.place e here outer ≡ next = cc in same) (sign_keeps op ts t e here outer holds (is_sign op t is))
 operator_keeps_by CloseParenthesis ts t e here outer next holds is eq = close_keeps_by ts t e here outer next holds (is_close t is) eq
@@ -381,15 +382,16 @@ finishes_by stage next t e f = (t ∷ f.0, f.1, ap (λ o. go o f.0) e ∙ f.2)
 tail_finishes : (value : Expr) → Finishes (Tail value)
 tail_finishes value = (token (Punct 8) ∷ [], value, refl)
 
-operator_finishes : (outer : List Open) (operand : Expr) (here : Open) → Finishes (Operator operand here outer)
+operator_finishes : (outer : List Enclosing) (operand : Expr) (here : Open) → Finishes (Operator operand here outer)
 operator_finishes [] operand here = finishes_by (Operator operand here []) (Tail (closed here operand)) (token (Punct 2)) refl (tail_finishes (closed here operand))
-operator_finishes (next ∷ outer) operand here =
-    finishes_by (Operator operand here (next ∷ outer)) (Operator (closed here operand) next outer) (token (Punct 4)) refl (operator_finishes outer (closed here operand) next)
+operator_finishes (around ∷ outer) operand here =
+    finishes_by (Operator operand here (around ∷ outer)) (Operator (in_parentheses around.parenthesis (closed here operand)) around.here outer) (token (Punct 4)) refl
+    (operator_finishes outer (in_parentheses around.parenthesis (closed here operand)) around.here)
 
 abbrev zero_token : CTok
 zero_token = token (Integer (record { value = pos 0; basic = Int; in_range = refl }))
 
-operand_finishes : (here : Open) (outer : List Open) → Finishes (Operand here outer)
+operand_finishes : (here : Open) (outer : List Enclosing) → Finishes (Operand here outer)
 operand_finishes here outer =
     finishes_by (Operand here outer) (Operator (int_constant (pos 0) zero_token.place) here outer) zero_token refl (operator_finishes outer (int_constant (pos 0) zero_token.place) here)
 

@@ -5,7 +5,7 @@ use Rattle.model_types.specs.declared.numbers.BinOp.{BinOp}
 use Rattle.model_types.specs.declared.numbers.BinOp.TheVariants.{Mul}
 use Rattle.model_tokens.specs.declared.tokens.CTok.{CTok}
 use Rattle.model_core.specs.Core.{Expr}
-use Rattle.c_model.specs.FirstUnit.{int_constant, int_operation}
+use Rattle.c_model.specs.FirstUnit.{int_constant, int_operation, in_parentheses}
 use Rattle.cake_cli.specs.Sorts.{Sort, IntWord, MainName, OpenParenthesis, VoidWord, CloseParenthesis, OpenBrace, ReturnWord, Constant, Sign, Semicolon, CloseBrace, Other, sort_of}
 
 -- a left operand that waits for its right one
@@ -30,11 +30,16 @@ joined (Some w) right = int_operation w.op w.left right w.place
 abbrev pub closed : Open → Expr → Expr
 closed here operand = joined here.sum (joined here.product operand)
 
+-- the operands that wait outside of a parenthesis that is open, and where it stands
+pub record Enclosing : Type 0 where
+  pub here : Open
+  pub parenthesis : Place
+
 -- how far a unit has been read; the innermost of the outer parentheses is the first
 pub data Stage : Type 0 where
   Front : (count : ℕ) → Stage
-  Operand : (here : Open) (outer : List Open) → Stage
-  Operator : (operand : Expr) (here : Open) (outer : List Open) → Stage
+  Operand : (here : Open) (outer : List Enclosing) → Stage
+  Operator : (operand : Expr) (here : Open) (outer : List Enclosing) → Stage
   Tail : (value : Expr) → Stage
   Whole : (value : Expr) → Stage
 
@@ -68,23 +73,23 @@ past_product place operand here = record { sum = here.sum; product = Some (recor
 abbrev pub past_sum : BinOp → Place → Expr → Open → Open
 past_sum op place operand here = record { sum = Some (record { op = op; left = closed here operand; place = place }); product = None }
 
-abbrev pub past_sign : BinOp → Place → Expr → Open → List Open → Stage
+abbrev pub past_sign : BinOp → Place → Expr → Open → List Enclosing → Stage
 past_sign Mul place operand here outer = Operand (past_product place operand here) outer
 past_sign op place operand here outer = Operand (past_sum op place operand here) outer
 
 -- behind a closing parenthesis, where one is open
-abbrev pub past_close : Expr → Open → List Open → Option Stage
+abbrev pub past_close : Expr → Open → List Enclosing → Option Stage
 past_close operand here [] = None
-past_close operand here (next ∷ outer) = Some (Operator (closed here operand) next outer)
+past_close operand here (around ∷ outer) = Some (Operator (in_parentheses around.parenthesis (closed here operand)) around.here outer)
 
 -- behind the semicolon, where no parenthesis is open
-abbrev pub past_end : Expr → Open → List Open → Option Stage
+abbrev pub past_end : Expr → Open → List Enclosing → Option Stage
 past_end operand here [] = Some (Tail (closed here operand))
-past_end operand here (next ∷ outer) = None
+past_end operand here (around ∷ outer) = None
 
 -- where an operand is wanted
-abbrev pub past_begin : Sort → Place → Open → List Open → Option Stage
-past_begin OpenParenthesis place here outer = Some (Operand nothing_open (here ∷ outer))
+abbrev pub past_begin : Sort → Place → Open → List Enclosing → Option Stage
+past_begin OpenParenthesis place here outer = Some (Operand nothing_open (record { here = here; parenthesis = place } ∷ outer))
 past_begin (Constant number) place here outer = Some (Operator (int_constant (pos number) place) here outer)
 past_begin IntWord place here outer = None
 past_begin MainName place here outer = None
@@ -98,7 +103,7 @@ past_begin CloseBrace place here outer = None
 past_begin Other place here outer = None
 
 -- behind an operand
-abbrev pub past_operand : Sort → Place → Expr → Open → List Open → Option Stage
+abbrev pub past_operand : Sort → Place → Expr → Open → List Enclosing → Option Stage
 past_operand (Sign op) place operand here outer = Some (past_sign op place operand here outer)
 past_operand CloseParenthesis place operand here outer = past_close operand here outer
 past_operand Semicolon place operand here outer = past_end operand here outer

@@ -1,10 +1,12 @@
 //! The unit `int main(void) { return E; }`, read token by token from the left.
 ghost use Rattle.std.specs.Prelude.{◌≡◌, ◌≤◌, IfOk, None};
 ghost use Rattle.cake_cli.specs.SortViews.{sort_view};
-ghost use Rattle.cake_cli.specs.Views.{expr_of, open_of, opens_of, stage_of, stage_option, reading_of};
+ghost use Rattle.cake_cli.specs.Views.{expr_of, open_of, enclosings_of, stage_of, stage_option, reading_of};
 ghost use Rattle.cake_cli.specs.Reader.{front_rank, past_sign, past_close, past_end, past_operand, past_begin, past_tail, past_front, read_token, at_end, read_unit};
 
-use crate::expression::{Expr, NOTHING_OPEN, Open, Waiting, close, join};
+use crate::expression::{
+    Enclosing, Expr, NOTHING_OPEN, Open, Waiting, close, in_parentheses, join, mark_at,
+};
 use crate::sorts::{Sort, sort_of};
 use c_tokens::{CList, CTok};
 use cake_base::{NoMemory, Place};
@@ -17,9 +19,9 @@ pub enum Stage {
     /// So many words of its front.
     Front(usize),
     /// An operand is wanted.
-    Operand(Open, Vec<Open>),
+    Operand(Open, Vec<Enclosing>),
     /// Behind an operand.
-    Operator(Expr, Open, Vec<Open>),
+    Operator(Expr, Open, Vec<Enclosing>),
     /// Behind the semicolon.
     Tail(Expr),
     /// The whole unit.
@@ -59,9 +61,9 @@ fn past_sign(
     place: Place,
     operand: Expr,
     here: Open,
-    outer: Vec<Open>,
+    outer: Vec<Enclosing>,
 ) -> Result<Stage, NoMemory>
-    ensures { IfOk result (λ s. stage_of s ≡ past_sign op place (expr_of operand) (open_of here) (opens_of outer.items)) }
+    ensures { IfOk result (λ s. stage_of s ≡ past_sign op place (expr_of operand) (open_of here) (enclosings_of outer.items)) }
 {
     let next = if op == BinOp::Mul {
         let Open { sum, product } = here;
@@ -81,7 +83,7 @@ fn past_sign(
 }
 
 /// No unit goes on behind this operand.
-fn stop_behind(operand: Expr, here: Open, outer: Vec<Open>) -> Option<Stage>
+fn stop_behind(operand: Expr, here: Open, outer: Vec<Enclosing>) -> Option<Stage>
     ensures { stage_option result ≡ None }
 {
     drop(operand);
@@ -89,7 +91,7 @@ fn stop_behind(operand: Expr, here: Open, outer: Vec<Open>) -> Option<Stage>
 }
 
 /// No unit goes on where an operand is wanted.
-fn stop_before(here: Open, outer: Vec<Open>) -> Option<Stage>
+fn stop_before(here: Open, outer: Vec<Enclosing>) -> Option<Stage>
     ensures { stage_option result ≡ None }
 {
     drop(here);
@@ -109,14 +111,18 @@ fn past_close(
     alloc: Global,
     operand: Expr,
     here: Open,
-    mut outer: Vec<Open>,
+    mut outer: Vec<Enclosing>,
 ) -> Result<Option<Stage>, NoMemory>
-    ensures { IfOk result (λ s. stage_option s ≡ past_close (expr_of operand) (open_of here) (opens_of outer.items)) }
+    ensures { IfOk result (λ s. stage_option s ≡ past_close (expr_of operand) (open_of here) (enclosings_of outer.items)) }
 {
     match outer.pop() {
         None => Ok(stop_behind(operand, here, outer)),
-        Some(next) => {
-            let operand = close(alloc, here, operand)?;
+        Some(around) => {
+            let Enclosing {
+                here: next,
+                parenthesis,
+            } = around;
+            let operand = in_parentheses(close(alloc, here, operand)?, parenthesis);
             Ok(Some(Stage::Operator(operand, next, outer)))
         }
     }
@@ -126,9 +132,9 @@ fn past_end(
     alloc: Global,
     operand: Expr,
     here: Open,
-    outer: Vec<Open>,
+    outer: Vec<Enclosing>,
 ) -> Result<Option<Stage>, NoMemory>
-    ensures { IfOk result (λ s. stage_option s ≡ past_end (expr_of operand) (open_of here) (opens_of outer.items)) }
+    ensures { IfOk result (λ s. stage_option s ≡ past_end (expr_of operand) (open_of here) (enclosings_of outer.items)) }
 {
     if outer.is_empty() {
         drop(outer);
@@ -144,9 +150,9 @@ fn past_operand(
     place: Place,
     operand: Expr,
     here: Open,
-    outer: Vec<Open>,
+    outer: Vec<Enclosing>,
 ) -> Result<Option<Stage>, NoMemory>
-    ensures { IfOk result (λ s. stage_option s ≡ past_operand (sort_view sort) place (expr_of operand) (open_of here) (opens_of outer.items)) }
+    ensures { IfOk result (λ s. stage_option s ≡ past_operand (sort_view sort) place (expr_of operand) (open_of here) (enclosings_of outer.items)) }
 {
     match sort {
         Sort::Sign(op) => Ok(Some(past_sign(alloc, op, place, operand, here, outer)?)),
@@ -168,17 +174,20 @@ fn past_begin(
     sort: Sort,
     place: Place,
     here: Open,
-    mut outer: Vec<Open>,
+    mut outer: Vec<Enclosing>,
 ) -> Result<Option<Stage>, NoMemory>
-    ensures { IfOk result (λ s. stage_option s ≡ past_begin (sort_view sort) place (open_of here) (opens_of outer.items)) }
+    ensures { IfOk result (λ s. stage_option s ≡ past_begin (sort_view sort) place (open_of here) (enclosings_of outer.items)) }
 {
     match sort {
         Sort::OpenParenthesis => {
-            outer.push(here)?;
+            outer.push(Enclosing {
+                here,
+                parenthesis: place,
+            })?;
             Ok(Some(Stage::Operand(NOTHING_OPEN, outer)))
         }
         Sort::Constant(constant) => {
-            let operand = Expr::Constant(constant, place);
+            let operand = Expr::Constant(constant, mark_at(place));
             Ok(Some(Stage::Operator(operand, here, outer)))
         }
         Sort::IntWord => Ok(stop_before(here, outer)),
