@@ -23,7 +23,7 @@ pub data LiteralOutcome : Type 0 where
   neither : LiteralOutcome
 
 abbrev pub object_outcome : unit.Lvalue → LiteralOutcome
-object_outcome (unit.Literal id type values mark) = each_time id type (shown_values values)
+object_outcome (unit.Literal origin id type values mark) = each_time id type (shown_values values)
 object_outcome (unit.Object id type mark) = static_object id type
 object_outcome object = neither
 

@@ -3,6 +3,7 @@
 use Rattle.std.specs.Prelude.{ℕ, Bool, true, false, ◌||◌, List, [], ◌∷◌, ◌++◌, Option, Some, None}
 use Rattle.cake_base.specs.declared.places.Place.{Place}
 use Rattle.cake_base.specs.declared.rules.Fault.{Fault}
+use Rattle.model_types.specs.declared.marks.Origin.TheVariants.{Written}
 use Rattle.model_types.specs.declared.marks.Mark.{Mark}
 use Rattle.model_types.specs.Types.{CType, form_of_type}
 use Rattle.model_types.specs.Structures.{Structure}
@@ -41,7 +42,7 @@ abbrev pub object_made : (is_static : Bool) → Use → Mark → Initialized →
 object_made true usage mark o s =
     gives (a_place (unit.Object s.scopes.ids o.type mark) None) (with_made (made_object usage s.scopes.ids mark o.type (Some o.values)) s)
 object_made false usage mark o s =
-    gives (a_place (unit.Literal s.scopes.ids o.type o.values mark) None)
+    gives (a_place (unit.Literal Written s.scopes.ids o.type o.values mark) None)
     (with_automatic usage s.scopes.ids (with_made (made_object usage s.scopes.ids mark o.type None) s))
 
 abbrev pub is_at_file_scope : State → Bool
