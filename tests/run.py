@@ -179,6 +179,41 @@ def headers_are_read(names):
     return (None if gcc.reads(out) else "gcc doesn't read it") if gcc.is_there() else SKIPPED
 
 
+def header_macro(header, name):
+    """A macro of a built-in header has the value and the type that it has in gcc's."""
+    status, out, err = cake(["-E", "a.c"], {"a.c": f"#include <{header}>\nbehind {name}\n"})
+    if status or err:
+        return short((status, err))
+    if not gcc.is_there():
+        return SKIPPED
+    text = out.rpartition("behind ")[2].strip()
+    differs = gcc.differs(header, name, text)
+    return f"{text} has another {differs}" if differs else None
+
+
+def header_type(header, name):
+    """A type of a built-in header is that of gcc's."""
+    status, out, err = cake(["-E", "a.c"], {"a.c": f"#include <{header}>\n"})
+    found = re.search(rf"typedef ([^;]*) {name} ;", out)
+    if status or err or not found:
+        return short((status, out, err))
+    if not gcc.is_there():
+        return SKIPPED
+    return None if gcc.is_type(header, name, found[1]) else f"{found[1]} is another type"
+
+
+def header_functions(header, own):
+    """What a built-in header declares can stand behind gcc's header, but for the type that is its own."""
+    status, out, err = cake(["-E", "a.c"], {"a.c": f"#include <{header}>\n"})
+    if status or err:
+        return short((status, err))
+    if not gcc.is_there():
+        return SKIPPED
+    # a function of gcc's header may be hidden by a macro of its name
+    shown = "".join(f"#undef {name}\n" for name in re.findall(r"(\w+) \(", out))
+    return None if gcc.reads(f"#include <{header}>\n{shown}" + out.replace(own, "")) else "gcc has other types"
+
+
 def example_expands(name):
     """The tokens of an example are those that gcc makes of it."""
     folder = os.path.join(TOP, "examples")
@@ -361,8 +396,18 @@ def missing_example(rule):
 
 
 def header_cases():
-    rows = rows_of("headers")["rows"]
+    data = rows_of("headers")
+    rows = data["rows"]
     names = [name for name, _, _ in rows]
+    with open(os.path.join(TOP, data["source"]), encoding="utf-8") as file:
+        texts = dict(re.findall(r'^/// `<(\S+)>`.*?^pub const \w+: &\[u8\] = b"(.*?)^";$', file.read(), re.M | re.S))
+    for name in names:
+        for macro in re.findall(r"^#define (\w+) ", texts[name], re.M):
+            yield header_macro, name, macro
+        for type_name in re.findall(r"^typedef [^;]* (\w+);$", texts[name], re.M):
+            if type_name not in data["own"]:
+                yield header_type, name, type_name
+        yield header_functions, name, data["own"].get("FILE", "")
     for name, line, end in rows:
         yield header_ends, name, line, end
     for together in [[name] for name in names] + [names, names[::-1], names + names]:

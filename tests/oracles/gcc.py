@@ -51,9 +51,30 @@ def reads(text):
     return gcc(words, text)[0] == 0
 
 
-def returned(text):
-    """What the program of a C89 text returns, or what gcc says of a text that it doesn't take."""
+def differs(header, name, text):
+    """What of a macro of gcc's header isn't as a text has it: `value`, `type`, or None."""
+    program = f"""#include <{header}>
+    int main(void) {{
+        if ({text} != {name}) return 1;
+        return __builtin_types_compatible_p(__typeof__({text}), __typeof__({name})) ? 0 : 2;
+    }}"""
+    return {0: None, 1: "value", 2: "type"}.get(ran(program, "-std=c2x"), "neither value nor type")
+
+
+def is_type(header, name, text):
+    """Whether a type of gcc's header is this one."""
+    program = f"#include <{header}>\nint main(void) {{ return !__builtin_types_compatible_p({text}, {name}); }}"
+    return ran(program, "-std=c2x") == 0
+
+
+def ran(text, *words):
+    """What a program returns, or what gcc says of a text that it doesn't take."""
     with tempfile.TemporaryDirectory() as folder:
         program = os.path.join(folder, "program")
-        code, _, err = gcc(["-std=c89", "-pedantic-errors", "-w", "-x", "c", "-o", program, "-"], text)
+        code, _, err = gcc([*words, "-w", "-x", "c", "-o", program, "-"], text)
         return subprocess.run([program], check=False).returncode if code == 0 else err
+
+
+def returned(text):
+    """What the program of a C89 text returns, or what gcc says of a text that it doesn't take."""
+    return ran(text, "-std=c89", "-pedantic-errors")

@@ -28,7 +28,7 @@ abbrev pub expr_of : OutExprForm → m.Expr
 expr_of (e.Name name) = m.Name name
 expr_of (e.Constant number suffix) = m.Constant number (suffix_of suffix)
 expr_of (e.Index left right) = m.Index left right
-expr_of (e.Member structure name) = m.Member structure name
+expr_of (e.Dot structure name) = m.Dot structure name
 expr_of (e.Arrow pointer name) = m.Arrow pointer name
 expr_of (e.Call function arguments) = m.Call function (exprs arguments)
 expr_of (e.Unary op operand) = m.Unary (prefix_of op) operand

@@ -48,7 +48,7 @@ pub enum OutExprForm {
         left: OutExpr,
         right: OutExpr,
     },
-    Member {
+    Dot {
         structure: OutExpr,
         name: Bytes,
     },

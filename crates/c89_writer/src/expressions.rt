@@ -52,7 +52,7 @@ pub fn push_expr(out: &mut Bytes, expr: &OutExpr) -> Result<(), NoMemory>
             push_expr(out, right)?;
             out.push(b"]")
         }
-        OutExprForm::Member { structure, name } => {
+        OutExprForm::Dot { structure, name } => {
             push_expr(out, structure)?;
             out.push(b".")?;
             out.push(name.as_slice())

@@ -9,7 +9,7 @@ use Rattle.model_core.specs.CoreTypes.{result_of_form}
 use Rattle.model_core.specs.Types89.{Type89}
 use Rattle.model_core.specs.Core as source
 use Rattle.model_core.specs.Program89 as target
-use Rattle.model_runs.specs.Memory.{Scalar, Cell, Value, Missing, Single, Structure as StructureValue, Number}
+use Rattle.model_runs.specs.Memory.{Scalar, Cell, Value, Missing, Single, StructureValue, Number}
 use Rattle.model_runs.specs.Run.{Run, Event, Move, Ending, Returned, Step, Goes, Ends, run_of}
 use Rattle.c_model.specs.WrittenType.{StructNames, written_type}
 use Rattle.c_model.specs.Seen.{Seen, SameBytes}

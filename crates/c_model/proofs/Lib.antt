@@ -1,3 +1,4 @@
+pub mod Lifted
 pub mod Rows
 pub mod Releases
 pub mod FirstUnitTyped

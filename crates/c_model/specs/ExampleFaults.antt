@@ -11,10 +11,11 @@ use Rattle.model_types.specs.Structures.{Member, Structure}
 use Rattle.model_core.specs.CoreTypes.{int_type, plain, pointer_to}
 use Rattle.model_core.specs.Core.{Core, Expr, Constant, Address, Logic, Assign, Compound, Lvalue, Field, Deref, Initials, no_initials, more_initials, Stat, Parameter, Static, Declared, Text, DeclaredObject, no_stat, a_stat}
 use Rattle.c_model.specs.ExampleParts.{nowhere, no_mark, number, int_variable, variable, load, binary, assigned, call, evaluate, block, return, function_type, automatic, stored_as, function, unit}
-use Rattle.c_model.specs.ExampleList.{is_const, size_type, int_void, implied}
+use Rattle.c_model.specs.ExampleList.{is_const, int_void, implied, const_int}
 use Rattle.model_core.specs.Types89 as type89
 use Rattle.model_core.specs.Program89 as text
 use Rattle.c_model.specs.FirstRow.{program_returning, int_number}
+use Rattle.model_core.specs.BuiltinTypes.{size_type}
 
 -- a unit whose `main` does this with these objects
 abbrev pub doing : List DeclaredObject → List ℕ → List Stat → Core
@@ -34,9 +35,6 @@ struct_type rank = plain (Struct (record { 0 = rank }))
 
 abbrev pub array_of : CType → ℕ → CType
 array_of type count = plain (Array type (Some count))
-
-abbrev pub const_int : CType
-const_int = typed (Integer Int) is_const
 
 abbrev pub static : CType → Initials → DeclaredObject
 static type values = stored_as (Static values) (automatic 1 type)

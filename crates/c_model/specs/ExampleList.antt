@@ -12,6 +12,7 @@ use Rattle.model_core.specs.CoreTypes.{int_type, plain, no_quals}
 use Rattle.model_runs.specs.Run.{Run, Event, Integer as IntegerArgument, StringAt, Took, Freed, Returned}
 use Rattle.model_core.specs.Core.{Core, Expr, Constant, Convert, Address, Unary, Lvalue, Arrow, Stat, If, While, For, no_expr, an_expr, no_stat, a_stat, Parameter, Text}
 use Rattle.c_model.specs.ExampleParts.{nowhere, no_mark, no_span, number, int_variable, variable, load, binary, assigned, call, increment, evaluate, start, block, return, function_type, automatic, stored_as, function, int_value}
+use Rattle.model_core.specs.BuiltinTypes.{size_type, owner_or_null}
 
 abbrev pub node_id : StructId
 node_id = record { 0 = 0 }
@@ -19,9 +20,6 @@ node_id = record { 0 = 0 }
 -- struct node
 abbrev pub node : CType
 node = plain (Struct node_id)
-
-abbrev pub owner_or_null : Quals
-owner_or_null = record no_quals { has_owner = true; has_opt = true }
 
 abbrev pub is_const : Quals
 is_const = record no_quals { has_const = true }
@@ -48,9 +46,6 @@ text_pointer = plain (Pointer (typed (Integer Char) is_const))
 -- void * _Owner _Opt
 abbrev pub void_owner : CType
 void_owner = typed (Pointer (plain Void)) owner_or_null
-
-abbrev pub size_type : CType
-size_type = plain (Integer UnsignedLong)
 
 -- struct node { int value; struct node * _Owner _Opt next; };
 abbrev pub node_struct : Structure

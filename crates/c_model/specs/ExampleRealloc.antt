@@ -7,8 +7,10 @@ use Rattle.model_core.specs.Core.{Core, Constant, no_stat, a_stat}
 use Rattle.model_core.specs.Types89 as type89
 use Rattle.model_core.specs.Program89 as text
 use Rattle.c_model.specs.ExampleParts.{no_mark, number, call, evaluate, block, return, function_type, function, unit}
-use Rattle.c_model.specs.ExampleList.{size_type, int_void}
-use Rattle.c_model.specs.ExampleTexts.{void_pointer, size_type as size89, outside, name, two_arguments, number as number89, main_outer, main_function}
+use Rattle.c_model.specs.ExampleList.{int_void}
+use Rattle.c_model.specs.ExampleTexts.{outside, name, two_arguments, number as number89, main_outer, main_function}
+use Rattle.model_core.specs.BuiltinTypes.{size_type}
+use Rattle.model_c89.specs.TargetRun.{void_pointer, size_type as size89}
 
 abbrev pub void_pointer_type : CType
 void_pointer_type = pointer_to (plain Void)

@@ -11,7 +11,8 @@ use Rattle.model_core.specs.CoreTypes.{int_type, no_quals, plain}
 use Rattle.model_runs.specs.Run.{Run, Took, Freed, Returned, Undefined}
 use Rattle.model_core.specs.Core.{Core, Call, FunctionRef, Assign, Plain, Unary, exprs, Lvalue, Object, Deref, Stat, If, For, no_expr, an_expr, no_stat, a_stat, DeclaredObject}
 use Rattle.c_model.specs.ExampleParts.{nowhere, mark_of, no_mark, no_span, number, int_variable, load, binary, increment, call, evaluate, start, block, return, function_type, automatic, function, unit, int_value}
-use Rattle.c_model.specs.ExampleList.{node_id, owner_or_null, void_owner, size_type, free_type, int_void, implied}
+use Rattle.c_model.specs.ExampleList.{node_id, void_owner, free_type, int_void, implied}
+use Rattle.model_core.specs.BuiltinTypes.{size_type, owner_or_null}
 
 -- a place on one of the lines
 abbrev pub at_line : (line column order : ℕ) → Place

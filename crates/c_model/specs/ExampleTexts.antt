@@ -6,6 +6,7 @@ use Rattle.model_core.specs.Types89.{Void, Char, UnsignedLong, Struct, Type89, B
 use Rattle.model_runs.specs.Run.{Run, Integer, StringAt, Took, Freed, Returned}
 use Rattle.c_model.specs.ExampleParts.{int_value}
 use Rattle.model_core.specs.Program89 as text
+use Rattle.model_c89.specs.TargetRun.{size_type, void_pointer}
 
 abbrev pub stats : List text.Stat → text.Stats
 stats [] = text.no_stats
@@ -75,12 +76,6 @@ node = Based false (Struct (codes "node_1"))
 
 abbrev pub node_pointer : Type89
 node_pointer = Pointer false node
-
-abbrev pub void_pointer : Type89
-void_pointer = Pointer false (Based false Void)
-
-abbrev pub size_type : Type89
-size_type = Based false UnsignedLong
 
 abbrev pub head : text.Expr
 head = name (codes "head_4")

@@ -8,9 +8,7 @@ use Rattle.model_core.specs.CoreTypes.{int_type, pointer_to}
 use Rattle.model_runs.specs.Run.{Run, Event, Returned, Undefined}
 use Rattle.model_core.specs.Core.{Core, Expr, Call, FunctionRef, Load, Choice, Object, exprs, Stat, Defer, If, Continue, For, no_expr, an_expr, no_stat, a_stat, Parameter, Lambda}
 use Rattle.c_model.specs.ExampleParts.{at_column, nowhere, mark_of, no_mark, no_span, number, int_variable, variable, load, binary, assigned, call, increment, evaluate, start, block, return, function_type, automatic, stored_as, global_int, function, unit, int_value, called_with}
-
-abbrev pub int_void : CType
-int_void = function_type int_type []
+use Rattle.c_model.specs.ExampleList.{int_void}
 
 abbrev pub int_int : CType
 int_int = function_type int_type (int_type ∷ [])

@@ -16,7 +16,7 @@ use Rattle.model_core.specs.TypedCore.{TypedCore}
 use Rattle.model_core.specs.Core as source
 use Rattle.model_core.specs.Types89.{Type89}
 use Rattle.model_core.specs.Program89 as target
-use Rattle.model_runs.specs.Memory.{Named, Local, Scalar, Number, Value, Missing, Single, Structure, Contents, contents_of}
+use Rattle.model_runs.specs.Memory.{Named, Local, Scalar, Number, Value, Missing, Single, StructureValue, Contents, contents_of}
 use Rattle.model_runs.specs.Loads.{loaded_type}
 use Rattle.model_runs.specs.Run.{Flow, Falls, State, Act, ◌▷◌, just, ends, Undefined}
 use Rattle.model_runs.specs.SourceOperations.{called_value}
@@ -57,7 +57,7 @@ Suits (Integer basic) (Single (Number value)) = IsTrue (fits (loaded_type basic)
 Suits (Enum basic order) (Single (Number value)) = IsTrue (fits (loaded_type basic) value)
 Suits (Pointer type) (Single (Number value)) = ⊥
 Suits (Pointer type) (Single scalar) = Unit {0}
-Suits (Struct id) (Structure cells) = Unit {0}
+Suits (Struct id) (StructureValue cells) = Unit {0}
 Suits form value = ⊥
 
 abbrev pub AllSuit : List CType → List Value → Type 0

@@ -3,7 +3,7 @@
 use Rattle.std.specs.Prelude.{◌≡◌, ◌⊎◌, ℕ, ℤ, List, [], ◌∷◌, ◌++◌, IsTrue}
 use Rattle.model_types.specs.Operations.{fits}
 use Rattle.model_types.specs.Types.{CType, Form, Integer, Enum, Pointer, Struct, Function, Types, no_types, more_types, form_of_type}
-use Rattle.model_runs.specs.Memory.{Given, Scalar, Number, Null, Address, Content, Holds, Zeroes, Cell, Value, Single, Structure, Memory, contents_of}
+use Rattle.model_runs.specs.Memory.{Given, Scalar, Number, Null, Address, Content, Holds, Zeroes, Cell, Value, Single, StructureValue, Memory, contents_of}
 use Rattle.model_runs.specs.Run.{Step, Goes, Ends, start_with, run_of}
 use Rattle.model_core.specs.CoreTypes.{result_of_form}
 use Rattle.model_core.specs.Core as source
@@ -41,7 +41,7 @@ IsArgument (Integer basic) (Single (Number value)) = IsTrue (fits basic value)
 IsArgument (Enum basic order) (Single (Number value)) = IsTrue (fits basic value)
 IsArgument (Pointer type) (Single Null) = Unit {0}
 IsArgument (Pointer type) (Single (Address (Given number) offset)) = Unit {0}
-IsArgument (Struct id) (Structure cells) = AreGivenCells cells
+IsArgument (Struct id) (StructureValue cells) = AreGivenCells cells
 IsArgument form value = ⊥
 
 abbrev pub AreArguments : Types → List Value → Type 0
@@ -69,7 +69,7 @@ SameCells memory other = (number : ℕ) →
 -- as it is
 abbrev pub SameResult : Form → Value → Value → Type 0
 SameResult (Pointer type) (Single scalar) (Single other) = seen scalar ≡ seen other
-SameResult (Struct id) (Structure cells) (Structure others) = SameBytes seen seen cells others
+SameResult (Struct id) (StructureValue cells) (StructureValue others) = SameBytes seen seen cells others
 SameResult form value other = value ≡ other
 
 -- two runs end alike: both return, with the same result and the same cells in given blocks, but not the

@@ -16,6 +16,8 @@ pub mod ExampleTexts
 pub mod ExampleMemory
 pub mod ExampleAgreed
 pub mod ExampleGiven
+pub mod ExampleImplied
+pub mod ExampleOrder
 pub mod ExampleFlattened
 pub mod ExamplePlaces
 pub mod ExampleRealloc

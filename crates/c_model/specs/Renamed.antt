@@ -4,7 +4,7 @@ use Rattle.std.specs.Prelude.{◌≡◌, ℕ, suc, Bool, true, false, List, [], 
 use Rattle.std.specs.Fmt.{decimal}
 use Rattle.model_types.specs.declared.types.StructId.{StructId}
 use Rattle.model_core.specs.Core as source
-use Rattle.model_runs.specs.Memory.{Numbered, Named, Block, Global, Local, Heap, HandleOf, Outside, Scalar, Address, Code, Value, Missing, Single, Structure, Cell, Contents, contents_of}
+use Rattle.model_runs.specs.Memory.{Numbered, Named, Block, Global, Local, Heap, HandleOf, Outside, Scalar, Address, Code, Value, Missing, Single, StructureValue, Cell, Contents, contents_of}
 use Rattle.model_runs.specs.Loads.{stored_at}
 use Rattle.model_runs.specs.Run.{State, Step, Goes, Ends, Undefined}
 use Rattle.c_model.specs.Seen.{Seen, Same, SameBytes}
@@ -103,7 +103,7 @@ pub record Agree (n : Naming) (core : source.Core) (s t : State) : Type 0 where
 abbrev pub AlikeValue : Naming → source.Core → Value → Value → Type 0
 AlikeValue n core Missing Missing = Unit {0}
 AlikeValue n core (Single scalar) (Single other) = IsKnownScalar core scalar × (renamed_scalar n core scalar ≡ other)
-AlikeValue n core (Structure cells) (Structure others) = AlikeBytes n core cells others
+AlikeValue n core (StructureValue cells) (StructureValue others) = AlikeBytes n core cells others
 AlikeValue n core value other = ⊥
 
 abbrev pub AlikeValues : Naming → source.Core → List Value → List Value → Type 0

@@ -12,9 +12,9 @@ use Rattle.model_types.specs.declared.outcomes.Cause.TheVariants.{NoValue, Kind}
 use Rattle.model_types.specs.Types.{CType, form_of_type}
 use Rattle.model_core.specs.Types89.{Type89, int_type as int89}
 use Rattle.model_core.specs.CoreTypes.{int_type as int23, type_of, binary_type as binary23}
-use Rattle.model_runs.specs.Memory.{Value, Missing, Single, Structure, Scalar}
+use Rattle.model_runs.specs.Memory.{Value, Missing, Single, StructureValue, Scalar}
 use Rattle.model_runs.specs.Applied.{applied}
-use Rattle.model_runs.specs.Run.{Undefined, State, Step, Goes, Ends, follow, given, Act, ◌▷◌, just, used, scalar_of, start_with, run_of, answer_of, Gives}
+use Rattle.model_runs.specs.Run.{Undefined, State, Step, Goes, Ends, follow, unless_undefined, Act, ◌▷◌, just, used, scalar_of, start_with, run_of, answer_of, Gives}
 use Rattle.model_core.specs.Core as source
 use Rattle.model_runs.specs.SourceFrame as source_frame
 use Rattle.model_core.specs.SourceMarks.{at_mark, expr_mark}
@@ -67,22 +67,22 @@ follow_same l r f g (inl fails) next = inl (follow_fails l f fails)
 follow_same (Goes x s) r f g (inr e) next = elim (next x s) [ inl fails ↦ inl fails | inr same ↦ inr (ap (λ t. follow t g) e ∙ same) ]
 follow_same (Ends ending s) r f g (inr e) next = inr (ap (λ t. follow t g) e)
 
-given_same : {A : Type 0} (place : Option Place) (r : Result A Cause) (s : State) → Follows (given place r s) (given None r s)
+unless_undefined_same : {A : Type 0} (place : Option Place) (r : Result A Cause) (s : State) → Follows (unless_undefined place r s) (unless_undefined None r s)
 unfolding Fails
-given_same place (Ok x) s = inr refl
-given_same place (Err cause) s = inl (cause, place, s, refl)
+unless_undefined_same place (Ok x) s = inr refl
+unless_undefined_same place (Err cause) s = inl (cause, place, s, refl)
 
 scalar_same : (place : Option Place) (v : Value) (s : State) → Follows (scalar_of place v s) (scalar_of None v s)
 unfolding Fails
 scalar_same place Missing s = inl (NoValue, place, s, refl)
 scalar_same place (Single scalar) s = inr refl
-scalar_same place (Structure cells) s = inl (Kind, place, s, refl)
+scalar_same place (StructureValue cells) s = inl (Kind, place, s, refl)
 
 used_same : (place : Option Place) (v : Value) (s : State) → Follows (used place v s) (used None v s)
 unfolding Fails
 used_same place Missing s = inl (NoValue, place, s, refl)
 used_same place (Single scalar) s = inr refl
-used_same place (Structure cells) s = inr refl
+used_same place (StructureValue cells) s = inr refl
 
 -- operations on two values of int have a value of it, and are done in it
 
@@ -122,7 +122,7 @@ written_is_int BitAnd = refl
 written_is_int BitXor = refl
 written_is_int BitOr = refl
 
-done_in_int : (op : BinOp) (x y : Scalar) (s : State) → target_operations.on_integers op Int Int x y s ≡ given None (applied op Int 1 x y) s
+done_in_int : (op : BinOp) (x y : Scalar) (s : State) → target_operations.on_integers op Int Int x y s ≡ unless_undefined None (applied op Int 1 x y) s
 done_in_int Mul x y s = refl
 done_in_int Div x y s = refl
 done_in_int Rem x y s = refl
@@ -174,7 +174,7 @@ is_written_int names (Binary' op p a q b place) =
 applied_same : (f : source_frame.Frame) (g : target_frame.Frame) (op : BinOp) (mark : Mark) (t u : CType) (t' u' : Type89) → t ≡ int23 → u ≡ int23 → t' ≡ int89 → u' ≡ int89 → (x y : Scalar) (s : State) → Follows ((source_operations.operated_on f op mark t u x y ▷ operands.single) s) ((target_operations.operated_on g op t' u' x y ▷ operands.single) s)
 applied_same f g op mark t u t' u' is_t is_u is_t' is_u' x y s =
     rw (is_t, is_u, is_t', is_u', done_in_int op x y s)
-    (follow_same (given (at_mark mark) (applied op Int 1 x y) s) (given None (applied op Int 1 x y) s) _ _ (given_same (at_mark mark) (applied op Int 1 x y) s) (λ z s1. inr refl))
+    (follow_same (unless_undefined (at_mark mark) (applied op Int 1 x y) s) (unless_undefined None (applied op Int 1 x y) s) _ _ (unless_undefined_same (at_mark mark) (applied op Int 1 x y) s) (λ z s1. inr refl))
 
 module _ (f : source_frame.Frame) (g : target_frame.Frame) where
   operand_same : (e : source.Expr) (m n : Act Value) (s : State) → Follows (m s) (n s) → Follows (source_values.operand e m s) (target_values.operand n s)
@@ -191,7 +191,7 @@ module _ (f : source_frame.Frame) (g : target_frame.Frame) where
   as_it_is : (t : Type89) (v : Value) → t ≡ int89 → target_operations.value_as t int89 v ≡ v
   as_it_is t Missing is = refl
   as_it_is t (Single scalar) is = rw (is) refl
-  as_it_is t (Structure cells) is = refl
+  as_it_is t (StructureValue cells) is = refl
 
   module _ (bound : ℕ) (e : Expr) (place : Place) (result : g.result ≡ int89) where
     returned_same : (s : State) → Follows (source_statements.perform f bound (source.Return (source.an_expr (expr_of e)) place) s) (target_statements.perform g bound (target.Return (target_of e)) s)

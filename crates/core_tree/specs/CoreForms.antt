@@ -27,7 +27,7 @@ expr_of (e.Convert origin type operand mark) = m.Convert origin type operand mar
 expr_of (e.Call function arguments mark) = m.Call function (m.exprs arguments) mark
 expr_of (e.Assign assignment object value mark) = m.Assign (assignment_of assignment) object value mark
 expr_of (e.Step op side type object mark) = m.Step op side type object mark
-expr_of (e.Member structure rank type name mark) = m.Member structure rank type name mark
+expr_of (e.MemberValue structure rank type name mark) = m.MemberValue structure rank type name mark
 expr_of (e.Comma first second mark) = m.Comma first second mark
 
 -- the lvalue of a form
@@ -37,7 +37,7 @@ lvalue_of (l.Deref pointer mark) = m.Deref pointer mark
 lvalue_of (l.Index is_second first second mark) = m.Index is_second first second mark
 lvalue_of (l.Field structure rank type name mark) = m.Field structure rank type name mark
 lvalue_of (l.Arrow pointer rank type name mark) = m.Arrow pointer rank type name mark
-lvalue_of (l.Literal id type values mark) = m.Literal id.0 type (initials values) mark
+lvalue_of (l.Literal origin id type values mark) = m.Literal origin id.0 type (initials values) mark
 
 -- the initial value of its parts
 abbrev pub initial_of : CoreInitialForm → Initial

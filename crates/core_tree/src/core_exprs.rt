@@ -101,7 +101,7 @@ pub enum CoreExprForm {
         mark: Mark,
     },
     /// The member of a rank, counted from 0, of a structure value, with its type and the place of its name.
-    Member {
+    MemberValue {
         structure: CoreExpr,
         rank: u32,
         ty: CType,
@@ -158,8 +158,10 @@ pub enum CoreLvalueForm {
         name: Place,
         mark: Mark,
     },
-    /// A compound literal, whose object gets its values each time.
+    /// A compound literal; or, implied, the object of a structure's value whose array member is asked for. It
+    /// gets its values each time.
     Literal {
+        origin: Origin,
         id: DeclId,
         ty: CType,
         values: Items<CoreInitial>,

@@ -24,7 +24,7 @@ impl CoreExpr {
             CoreExprForm::Call { mark, .. } => *mark,
             CoreExprForm::Assign { mark, .. } => *mark,
             CoreExprForm::Step { mark, .. } => *mark,
-            CoreExprForm::Member { mark, .. } => *mark,
+            CoreExprForm::MemberValue { mark, .. } => *mark,
             CoreExprForm::Comma { mark, .. } => *mark,
         }
     }

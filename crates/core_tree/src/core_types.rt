@@ -202,7 +202,7 @@ pub fn expr_type(alloc: Global, form: &CoreExprForm) -> Result<CType, NoMemory>
         CoreExprForm::Call { function, .. } => called_type(alloc, function.ty()),
         CoreExprForm::Assign { object, .. } => unqualified(alloc, object.ty()),
         CoreExprForm::Step { object, .. } => unqualified(alloc, object.ty()),
-        CoreExprForm::Member { ty, .. } => unqualified(alloc, ty),
+        CoreExprForm::MemberValue { ty, .. } => unqualified(alloc, ty),
         CoreExprForm::Comma { second, .. } => second.ty().copy(alloc),
     }
 }

@@ -11,7 +11,7 @@ use Rattle.model_types.specs.declared.numbers.BinOp.TheVariants.{Mul, Div, Rem, 
 use Rattle.model_types.specs.declared.operators.LogicOp.TheVariants.{And, Or}
 use Rattle.model_core.specs.Types89.{Base, Void, Char, SignedChar, UnsignedChar, Short, UnsignedShort, Int, UnsignedInt, Long, UnsignedLong, Struct, Type89, Based, Pointer, Array, Function}
 use Rattle.model_c89.specs.Written89.{WrittenType, WrittenExpr, greatest}
-use Rattle.model_core.specs.Program89.{Expr, Name, Constant, Index, Member, Arrow, Call, Unary, Binary, Logic, Choice, Cast, Prefix, Minus, Complement, Not, Deref, AddressOf, Suffix, Plain, U, L, UL}
+use Rattle.model_core.specs.Program89.{Expr, Name, Constant, Index, Dot, Arrow, Call, Unary, Binary, Logic, Choice, Cast, Prefix, Minus, Complement, Not, Deref, AddressOf, Suffix, Plain, U, L, UL}
 use Rattle.model_c89.proofs.UniqueWords.{strip, front, behind, front_is, behind_is, front_none, decimal_is_number, begins-push}
 use Rattle.model_c89.proofs.ReadingMachine.{Reach, goes, here, by, stays, onwards}
 use Rattle.model_c89.proofs.TypesMachine as types
@@ -93,7 +93,7 @@ pub no_type : (e : Expr) (z : List ℕ) → WrittenExpr e → begins_with is_wor
 no_type (Name name) z w n = no_type_name name z w n
 no_type (Constant m s) z w n = no_type_digit ((decimal m ++ suffix_text s) ++ z) (digits_begin m s z (small m s w))
 no_type (Index a b) z w n = ap at_type (append_assoc (expr_text a) _ z) ∙ no_type a _ w.0 refl
-no_type (Member a name) z w n = ap at_type (append_assoc (expr_text a) _ z) ∙ no_type a _ w.0 refl
+no_type (Dot a name) z w n = ap at_type (append_assoc (expr_text a) _ z) ∙ no_type a _ w.0 refl
 no_type (Arrow a name) z w n = ap at_type (append_assoc (expr_text a) _ z) ∙ no_type a _ w.0 refl
 no_type (Call a es) z w n = ap at_type (append_assoc (expr_text a) _ z) ∙ no_type a _ w.0 refl
 no_type (Unary op a) z w n = refl
@@ -122,7 +122,7 @@ pub first_of : (e : Expr) (z : List ℕ) → WrittenExpr e → First (expr_text 
 first_of (Name name) z w = word_opens _ (begins-push is_word_byte name z (first_word is_nondigit nondigit_is_word name w.begins))
 first_of (Constant m s) z w = word_opens _ (first_word is_digit digit_is_word ((decimal m ++ suffix_text s) ++ z) (digits_begin m s z (small m s w)))
 first_of (Index a b) z w = first_of_left a _ z (first_of a _ w.0)
-first_of (Member a name) z w = first_of_left a _ z (first_of a _ w.0)
+first_of (Dot a name) z w = first_of_left a _ z (first_of a _ w.0)
 first_of (Arrow a name) z w = first_of_left a _ z (first_of a _ w.0)
 first_of (Call a es) z w = first_of_left a _ z (first_of a _ w.0)
 first_of (Unary op a) z w = parenthesis_opens _ (ap at_type (append_assoc (prefix_text op) _ z) ∙ not_type op _)

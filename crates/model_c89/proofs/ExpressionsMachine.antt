@@ -10,7 +10,7 @@ use Rattle.model_types.specs.declared.numbers.BinOp.TheVariants.{Mul, Div, Rem, 
 use Rattle.model_types.specs.declared.operators.LogicOp.{LogicOp}
 use Rattle.model_types.specs.declared.operators.LogicOp.TheVariants.{And, Or}
 use Rattle.model_core.specs.Types89.{Type89}
-use Rattle.model_core.specs.Program89.{Expr, Name, Constant, Index, Member, Arrow, Call, Unary, Binary, Logic, Choice, Cast, Exprs, no_exprs, more_exprs, Prefix, Minus, Complement, Not, Deref, AddressOf, Suffix, Plain, U, L, UL}
+use Rattle.model_core.specs.Program89.{Expr, Name, Constant, Index, Dot, Arrow, Call, Unary, Binary, Logic, Choice, Cast, Exprs, no_exprs, more_exprs, Prefix, Minus, Complement, Not, Deref, AddressOf, Suffix, Plain, U, L, UL}
 use Rattle.model_c89.proofs.UniqueWords.{strip, front, behind, number}
 use Rattle.model_c89.proofs.TypesMachine as types
 
@@ -157,7 +157,7 @@ after_arrow frames e text (Some rest) = Some (Have frames (Arrow e (front is_wor
 after_arrow frames e text None = after_call frames e text (strip (codes "(") text)
 
 abbrev pub after_dot : List Frame → Expr → (text : List ℕ) → Option (List ℕ) → Option State
-after_dot frames e text (Some rest) = Some (Have frames (Member e (front is_word_byte rest)) (behind is_word_byte rest))
+after_dot frames e text (Some rest) = Some (Have frames (Dot e (front is_word_byte rest)) (behind is_word_byte rest))
 after_dot frames e text None = after_arrow frames e text (strip (codes "->") text)
 
 abbrev pub after_index : List Frame → Expr → (text : List ℕ) → Option (List ℕ) → Option State

@@ -14,7 +14,7 @@ mutual
   expr_reads (tree.Name name) = reads_name name name refl
   expr_reads (tree.Constant number suffix) = reads_constant _ number suffix refl
   expr_reads (tree.Index a b) = reads_index _ a b (expr_text a) (expr_text b) (expr_reads a) (expr_reads b) refl
-  expr_reads (tree.Member a name) = reads_member _ a name (expr_text a) (expr_reads a) refl
+  expr_reads (tree.Dot a name) = reads_member _ a name (expr_text a) (expr_reads a) refl
   expr_reads (tree.Arrow a name) = reads_arrow _ a name (expr_text a) (expr_reads a) refl
   expr_reads (tree.Call a es) = reads_call _ a es (expr_text a) (arguments_text es) (expr_reads a) (arguments_read es) refl
   expr_reads (tree.Unary op a) = reads_unary _ op a (expr_text a) (expr_reads a) refl

@@ -10,7 +10,7 @@ use Rattle.model_types.specs.declared.numbers.BinOp.{BinOp}
 use Rattle.model_types.specs.declared.operators.LogicOp.{LogicOp}
 use Rattle.model_core.specs.Types89.{Type89}
 use Rattle.model_c89.specs.Written89.{WrittenExpr, WrittenExprs, greatest}
-use Rattle.model_core.specs.Program89.{Expr, Name, Constant, Index, Member, Arrow, Call, Unary, Binary, Logic, Choice, Cast, Exprs, no_exprs, more_exprs, Prefix, Minus, Complement, Not, Deref, AddressOf, Suffix, Plain, U, L, UL}
+use Rattle.model_core.specs.Program89.{Expr, Name, Constant, Index, Dot, Arrow, Call, Unary, Binary, Logic, Choice, Cast, Exprs, no_exprs, more_exprs, Prefix, Minus, Complement, Not, Deref, AddressOf, Suffix, Plain, U, L, UL}
 use Rattle.model_c89.proofs.UniqueWords.{strip, front, behind, front_is, behind_is, number_is, behind_number}
 use Rattle.model_c89.proofs.ReadingMachine.{by, stays, onwards, one_end}
 use Rattle.model_c89.proofs.TypesMachine as types
@@ -72,10 +72,10 @@ reads_constant frames m s z w n =
 
 -- names behind `.` and `->`
 
-reads_member : (frames : List Frame) (e : Expr) (name z : List ℕ) → IsName name → begins_with is_word_byte z ≡ false → step (Have frames e (codes "." ++ (name ++ z))) ≡ Some (Have frames (Member e name) z)
+reads_member : (frames : List Frame) (e : Expr) (name z : List ℕ) → IsName name → begins_with is_word_byte z ≡ false → step (Have frames e (codes "." ++ (name ++ z))) ≡ Some (Have frames (Dot e name) z)
 reads_member frames e name z is n =
-    ap (λ w. Some (Have frames (Member e w) (behind is_word_byte (name ++ z)))) (front_is is_word_byte name z is.goes_on n)
-    ∙ ap (λ r. Some (Have frames (Member e name) r)) (behind_is is_word_byte name z is.goes_on n)
+    ap (λ w. Some (Have frames (Dot e w) (behind is_word_byte (name ++ z)))) (front_is is_word_byte name z is.goes_on n)
+    ∙ ap (λ r. Some (Have frames (Dot e name) r)) (behind_is is_word_byte name z is.goes_on n)
 
 reads_arrow : (frames : List Frame) (e : Expr) (name z : List ℕ) → IsName name → begins_with is_word_byte z ≡ false → step (Have frames e (codes "->" ++ (name ++ z))) ≡ Some (Have frames (Arrow e name) z)
 reads_arrow frames e name z is n =
@@ -137,7 +137,7 @@ mutual
       (by step _ _ _ refl
       (onwards step _ _ _ (reads b w.1 (InIndex a ∷ frames) (codes "]" ++ z) refl)
       (by step _ _ _ refl (stays step _)))))
-  reads (Member a name) w frames z n =
+  reads (Dot a name) w frames z n =
       from (Want frames) _ _ _ (append_assoc (expr_text a) (codes "." ++ name) z)
       (onwards step _ _ _ (reads a w.0 frames (codes "." ++ (name ++ z)) refl) (by step _ _ _ (reads_member frames a name z w.1 n) (stays step _)))
   reads (Arrow a name) w frames z n =

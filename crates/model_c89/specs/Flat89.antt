@@ -8,7 +8,7 @@ abbrev mutual
   holds_call (text.Name name) = false
   holds_call (text.Constant number suffix) = false
   holds_call (text.Index left right) = holds_call left || holds_call right
-  holds_call (text.Member structure name) = holds_call structure
+  holds_call (text.Dot structure name) = holds_call structure
   holds_call (text.Arrow pointer name) = holds_call pointer
   holds_call (text.Call function arguments) = true
   holds_call (text.Unary op operand) = holds_call operand

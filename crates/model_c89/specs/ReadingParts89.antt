@@ -20,7 +20,7 @@ mutual
     reads_index : (text : List ℕ) (left right : tree.Expr) (first second : List ℕ) → ReadsExpr first left → ReadsExpr second right →
         text ≡ first ++ (codes "[" ++ (second ++ codes "]")) → ReadsExpr text (tree.Index left right)
     reads_member : (text : List ℕ) (structure : tree.Expr) (name first : List ℕ) → ReadsExpr first structure → text ≡ first ++ (codes "." ++ name) →
-        ReadsExpr text (tree.Member structure name)
+        ReadsExpr text (tree.Dot structure name)
     reads_arrow : (text : List ℕ) (pointer : tree.Expr) (name first : List ℕ) → ReadsExpr first pointer → text ≡ first ++ (codes "->" ++ name) →
         ReadsExpr text (tree.Arrow pointer name)
     reads_call : (text : List ℕ) (function : tree.Expr) (arguments : tree.Exprs) (first second : List ℕ) → ReadsExpr first function →

@@ -53,7 +53,7 @@ abbrev mutual
   expr_text (text.Name name) = name
   expr_text (text.Constant number suffix) = decimal number ++ suffix_text suffix
   expr_text (text.Index left right) = expr_text left ++ (codes "[" ++ (expr_text right ++ codes "]"))
-  expr_text (text.Member structure name) = expr_text structure ++ (codes "." ++ name)
+  expr_text (text.Dot structure name) = expr_text structure ++ (codes "." ++ name)
   expr_text (text.Arrow pointer name) = expr_text pointer ++ (codes "->" ++ name)
   expr_text (text.Call function arguments) = expr_text function ++ (codes "(" ++ (arguments_text arguments ++ codes ")"))
   expr_text (text.Unary op operand) = codes "(" ++ (prefix_text op ++ (expr_text operand ++ codes ")"))

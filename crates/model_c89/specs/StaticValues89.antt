@@ -27,7 +27,7 @@ abbrev mutual
   is_address names (text.Index a b) =
       decays names (text.Index a b)
       && ((is_address names a && is_integer_constant names b) || (is_integer_constant names a && is_address names b))
-  is_address names (text.Member structure name) = decays names (text.Member structure name) && is_static_place names structure
+  is_address names (text.Dot structure name) = decays names (text.Dot structure name) && is_static_place names structure
   is_address names (text.Arrow pointer name) = decays names (text.Arrow pointer name) && is_address names pointer
   is_address names (text.Unary text.AddressOf e) = is_function (type_of names e) || is_static_place names e
   is_address names (text.Unary text.Deref e) = decays names (text.Unary text.Deref e) && is_address names e
@@ -39,7 +39,7 @@ abbrev mutual
   pub is_static_place : Names → text.Expr → Bool
   is_static_place names (text.Name name) = true
   is_static_place names (text.Index a b) = (is_address names a && is_integer_constant names b) || (is_integer_constant names a && is_address names b)
-  is_static_place names (text.Member structure name) = is_static_place names structure
+  is_static_place names (text.Dot structure name) = is_static_place names structure
   is_static_place names (text.Arrow pointer name) = is_address names pointer
   is_static_place names (text.Unary text.Deref e) = is_address names e
   is_static_place names e = false

@@ -16,16 +16,16 @@ members_in (Tag other ∷ structures) name = members_in structures name
 members_in (Members other first others ∷ structures) name = if bytes_eq other name then Some (first ∷ others) else members_in structures name
 
 abbrev pub base_layout : (List ℕ → Option Layout) → Base → Option Layout
-base_layout given (Struct name) = given name
-base_layout given base = option_map (λ b. scalar (basic_size b)) (integer_of base)
+base_layout of_tag (Struct name) = of_tag name
+base_layout of_tag base = option_map (λ b. scalar (basic_size b)) (integer_of base)
 
--- a type, where the layout of each structure is given
+-- a type, by the layout of the structure of each tag
 abbrev pub type_layout : (List ℕ → Option Layout) → Type89 → Option Layout
-type_layout given (Based is_const base) = base_layout given base
-type_layout given (Pointer is_const to) = Some (scalar 8)
-type_layout given (Array None of) = None
-type_layout given (Array (Some count) of) = option_map (repeated count) (type_layout given of)
-type_layout given (Function result parameters is_variadic) = None
+type_layout of_tag (Based is_const base) = base_layout of_tag base
+type_layout of_tag (Pointer is_const to) = Some (scalar 8)
+type_layout of_tag (Array None of) = None
+type_layout of_tag (Array (Some count) of) = option_map (repeated count) (type_layout of_tag of)
+type_layout of_tag (Function result parameters is_variadic) = None
 
 abbrev pub member_layouts : (Type89 → Option Layout) → List Declaration → Option (List Layout)
 member_layouts of [] = Some []
@@ -36,13 +36,13 @@ layout_of_members of None = None
 layout_of_members of (Some ms) = option_map (λ ls. padded (in_a_row ls)) (member_layouts of ms)
 
 -- a structure, where structures lie in one another at most this deep
-abbrev pub struct_layout : (depth : ℕ) → List Structure → (name : List ℕ) → Option Layout
-struct_layout zero structures name = None
-struct_layout (suc depth) structures name = layout_of_members (type_layout (struct_layout depth structures)) (members_in structures name)
+abbrev pub tag_layout : (depth : ℕ) → List Structure → (name : List ℕ) → Option Layout
+tag_layout zero structures name = None
+tag_layout (suc depth) structures name = layout_of_members (type_layout (tag_layout depth structures)) (members_in structures name)
 
 -- a type; none where it is incomplete
 abbrev pub layout_of : List Structure → Type89 → Option Layout
-layout_of structures = type_layout (struct_layout (length structures) structures)
+layout_of structures = type_layout (tag_layout (length structures) structures)
 
 abbrev pub size_or : Option Layout → ℕ
 size_or None = 0

@@ -1,22 +1,20 @@
 -- What the expressions of a C89 program do with the values of their operands (ISO/IEC 9899:1990, 6.2, 6.3):
 -- a text's runs have no places.
-use Rattle.std.specs.Prelude.{ℕ, ℤ, pos, ◌+ℤ◌, ◌*ℤ◌, Bool, true, false, ◌||◌, List, Option, Some, None, if◌then◌else◌}
+use Rattle.std.specs.Prelude.{ℕ, pos, ◌*ℤ◌, Bool, true, false, ◌||◌, List, Option, Some, None, if◌then◌else◌}
 use Rattle.model_types.specs.declared.numbers.Basic.{Basic}
 use Rattle.model_types.specs.declared.numbers.Basic.TheVariants.{Int as int}
 use Rattle.model_types.specs.declared.numbers.BinOp.{BinOp}
-use Rattle.model_types.specs.declared.operators.LogicOp.{LogicOp}
-use Rattle.model_types.specs.declared.operators.LogicOp.TheVariants.{And, Or}
 use Rattle.model_types.specs.declared.operators.UnaryOp.{UnaryOp}
 use Rattle.model_types.specs.declared.operators.UnaryOp.TheVariants.{Minus, Complement}
-use Rattle.model_types.specs.declared.outcomes.Cause.TheVariants.{Null as NullCause, Kind}
+use Rattle.model_types.specs.declared.outcomes.Cause.TheVariants.{Kind}
 use Rattle.model_types.specs.Conversions.{promoted, operand_type, is_shift, is_comparison}
 use Rattle.model_types.specs.Compatible.{same_basic}
 use Rattle.model_core.specs.Types89.{Void, Type89, Based, Array}
-use Rattle.model_runs.specs.Memory.{Scalar, Number, Null, Address, Code, Value, Missing, Single, Structure}
+use Rattle.model_runs.specs.Memory.{Scalar, Address, Value, Missing, Single, StructureValue}
 use Rattle.model_runs.specs.Loads.{value_at}
 use Rattle.model_runs.specs.Applied.{applied, applied_unary, is_true, truth_value, converted, ToInteger, ToPointer}
 use Rattle.model_runs.specs.Accesses.{load_from}
-use Rattle.model_runs.specs.Run.{Act, ◌▷◌, just, ends, given, Undefined}
+use Rattle.model_runs.specs.Run.{Act, ◌▷◌, just, ends, unless_undefined, Undefined}
 use Rattle.model_runs.specs.Operands.{Location, pointed, further, counted, single}
 use Rattle.model_c89.specs.TargetLayout.{size_of, shape_of, member_of, found_type, found_rank, offset_of}
 use Rattle.model_c89.specs.TargetTypes.{integer_type, basic_or_int, is_pointer, pointee}
@@ -62,11 +60,11 @@ right_type op left right = if is_shift op then promoted right else operand_type 
 -- integers are converted to the type in which the operation is done
 abbrev pub on_integers : BinOp → Basic → Basic → Scalar → Scalar → Act Scalar
 on_integers op left right a b =
-    given None (applied op (operand_type op left right) 1 (between left (operand_type op left right) a) (between right (right_type op left right) b))
+    unless_undefined None (applied op (operand_type op left right) 1 (between left (operand_type op left right) a) (between right (right_type op left right) b))
 
 abbrev pub on_scalars : Frame → BinOp → (left right : Type89) → Scalar → Scalar → Act Scalar
 on_scalars f op left right a b =
-    given None
+    unless_undefined None
     (applied op int (size_of f.program.structures (pointee (if is_pointer left then left else right))) (null_or (is_comparison op) right a) (null_or (is_comparison op) left b))
 
 -- a binary operator on operands of these types
@@ -77,7 +75,7 @@ operated_on f op left right a b =
 
 -- a unary operator on an integer, promoted
 abbrev pub on_promoted : UnaryOp → Basic → Scalar → Act Scalar
-on_promoted op basic a = given None (applied_unary op (promoted basic) (between basic (promoted basic) a))
+on_promoted op basic a = unless_undefined None (applied_unary op (promoted basic) (between basic (promoted basic) a))
 
 abbrev pub applied_prefix : text.Prefix → Type89 → Scalar → Act Scalar
 applied_prefix text.Minus type a = on_promoted Minus (basic_or_int (integer_type type)) a
@@ -87,8 +85,8 @@ applied_prefix _ type a = ends (Undefined Kind None)
 
 -- the value of a structure's member
 abbrev pub member_value : Frame → (structure : Type89) → (name : List ℕ) → Value → Act Value
-member_value f structure name (Structure cells) =
-    given None
+member_value f structure name (StructureValue cells) =
+    unless_undefined None
     (value_at (shape_of f.program.structures (found_type (member_of f.program.structures structure name))) cells
     (offset_of f.program.structures structure (found_rank (member_of f.program.structures structure name))))
 member_value f structure name value = ends (Undefined Kind None)

@@ -100,7 +100,7 @@ abbrev pub type_of : Names → text.Expr → Type89
 type_of names (text.Name name) = type_or_int (find_name names.declared name)
 type_of names (text.Constant number suffix) = constant_type suffix
 type_of names (text.Index left right) = indexed_type (decayed (type_of names left)) (decayed (type_of names right))
-type_of names (text.Member structure name) = found_type (member_of names.structures (type_of names structure) name)
+type_of names (text.Dot structure name) = found_type (member_of names.structures (type_of names structure) name)
 type_of names (text.Arrow pointer name) = found_type (member_of names.structures (pointee (decayed (type_of names pointer))) name)
 type_of names (text.Call function arguments) = result_type (pointee (decayed (type_of names function)))
 type_of names (text.Unary op operand) = prefix_type op (type_of names operand)

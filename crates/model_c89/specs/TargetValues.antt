@@ -33,7 +33,7 @@ abbrev pub is_place : text.Expr → Bool
 is_place (text.Name name) = true
 is_place (text.Index left right) = true
 is_place (text.Arrow pointer name) = true
-is_place (text.Member structure name) = is_place structure
+is_place (text.Dot structure name) = is_place structure
 is_place (text.Unary text.Deref operand) = true
 is_place _ = false
 
@@ -66,9 +66,9 @@ abbrev mutual
       operand (evaluate f a)
       ▷ (λ x. operand (evaluate f b)
       ▷ (λ y. indexed f (value_type f.names a) (value_type f.names b) x y ▷ read_place f (type_of f.names (text.Index a b))))
-  evaluate f (text.Member structure name) =
+  evaluate f (text.Dot structure name) =
       if is_place structure
-      then locate f structure ▷ (λ l. read_place f (type_of f.names (text.Member structure name)) (member_at f.program.structures (type_of f.names structure) name l))
+      then locate f structure ▷ (λ l. read_place f (type_of f.names (text.Dot structure name)) (member_at f.program.structures (type_of f.names structure) name l))
       else needed (evaluate f structure) ▷ member_value f (type_of f.names structure) name
   evaluate f (text.Arrow pointer name) =
       operand (evaluate f pointer)
@@ -94,7 +94,7 @@ abbrev mutual
   locate f (text.Name name) = just (record { block = block_of f name; offset = pos 0 })
   locate f (text.Index a b) =
       operand (evaluate f a) ▷ (λ x. operand (evaluate f b) ▷ indexed f (value_type f.names a) (value_type f.names b) x)
-  locate f (text.Member structure name) =
+  locate f (text.Dot structure name) =
       locate f structure ▷ (λ l. just (member_at f.program.structures (type_of f.names structure) name l))
   locate f (text.Arrow pointer name) =
       operand (evaluate f pointer)

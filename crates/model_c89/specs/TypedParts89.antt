@@ -38,26 +38,26 @@ has_const type = false
 abbrev pub is_complete : List text.Structure → Type89 → Bool
 is_complete structures type = is_some (layout_of structures type)
 
--- const, or with const elements or members; of structures it is given
+-- const, or with const elements or members, by which tags are of structures that have some
 abbrev pub holds_const : (List ℕ → Bool) → Type89 → Bool
-holds_const given (Based is_const (Struct name)) = is_const || given name
-holds_const given (Based is_const base) = is_const
-holds_const given (Pointer is_const to) = is_const
-holds_const given (Array count of) = holds_const given of
-holds_const given type = false
+holds_const of_tag (Based is_const (Struct name)) = is_const || of_tag name
+holds_const of_tag (Based is_const base) = is_const
+holds_const of_tag (Pointer is_const to) = is_const
+holds_const of_tag (Array count of) = holds_const of_tag of
+holds_const of_tag type = false
 
 abbrev pub members_hold_const : (List ℕ → Bool) → Option (List text.Declaration) → Bool
-members_hold_const given None = false
-members_hold_const given (Some members) = list_any (λ m. holds_const given m.type) members
+members_hold_const of_tag None = false
+members_hold_const of_tag (Some members) = list_any (λ m. holds_const of_tag m.type) members
 
 -- a structure, where structures lie in one another at most this deep
-abbrev pub struct_holds_const : (depth : ℕ) → List text.Structure → (name : List ℕ) → Bool
-struct_holds_const zero structures name = false
-struct_holds_const (suc depth) structures name = members_hold_const (struct_holds_const depth structures) (members_in structures name)
+abbrev pub tag_holds_const : (depth : ℕ) → List text.Structure → (name : List ℕ) → Bool
+tag_holds_const zero structures name = false
+tag_holds_const (suc depth) structures name = members_hold_const (tag_holds_const depth structures) (members_in structures name)
 
 -- an object of the type isn't assigned to: it is const, or a member at any depth is (6.2.2.1)
 abbrev pub is_const_somewhere : List text.Structure → Type89 → Bool
-is_const_somewhere structures = holds_const (struct_holds_const (length structures) structures)
+is_const_somewhere structures = holds_const (tag_holds_const (length structures) structures)
 
 -- two pointers to compatible types, const of these aside
 abbrev pub alike : Type89 → Type89 → Bool

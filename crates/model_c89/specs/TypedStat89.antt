@@ -31,7 +31,7 @@ call_fits names type arguments = false
 abbrev pub member_fits : Names → text.Expr → (name : List ℕ) → Bool
 member_fits names structure name =
     is_some (member_of names.structures (type_of names structure) name)
-    && (is_place structure || not (is_array (type_of names (text.Member structure name))))
+    && (is_place structure || not (is_array (type_of names (text.Dot structure name))))
 
 abbrev mutual
   -- the expression has a type
@@ -39,7 +39,7 @@ abbrev mutual
   has_type names (text.Name name) = is_some (find_name names.declared name)
   has_type names (text.Constant number suffix) = true
   has_type names (text.Index a b) = has_type names a && has_type names b && index_fits names.structures (value_type names a) (value_type names b)
-  has_type names (text.Member structure name) = has_type names structure && member_fits names structure name
+  has_type names (text.Dot structure name) = has_type names structure && member_fits names structure name
   has_type names (text.Arrow pointer name) =
       has_type names pointer && is_some (member_of names.structures (pointee (value_type names pointer)) name)
   has_type names (text.Call function arguments) =

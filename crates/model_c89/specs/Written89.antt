@@ -47,7 +47,7 @@ abbrev mutual
   WrittenExpr (text.Name name) = IsName name
   WrittenExpr (text.Constant number suffix) = number ≤ greatest suffix
   WrittenExpr (text.Index left right) = WrittenExpr left × WrittenExpr right
-  WrittenExpr (text.Member structure name) = WrittenExpr structure × IsName name
+  WrittenExpr (text.Dot structure name) = WrittenExpr structure × IsName name
   WrittenExpr (text.Arrow pointer name) = WrittenExpr pointer × IsName name
   WrittenExpr (text.Call function arguments) = WrittenExpr function × WrittenExprs arguments
   WrittenExpr (text.Unary op operand) = WrittenExpr operand

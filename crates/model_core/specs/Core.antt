@@ -35,18 +35,19 @@ mutual
     Call : (function : Expr) (arguments : Exprs) (mark : Mark) → Expr
     Assign : (assignment : Assignment) (object : Lvalue) (value : Expr) (mark : Mark) → Expr
     Step : (op : StepOp) (side : StepSide) (type : CType) (object : Lvalue) (mark : Mark) → Expr
-    Member : (structure : Expr) (rank : ℕ) (type : CType) (name : Place) (mark : Mark) → Expr
+    MemberValue : (structure : Expr) (rank : ℕ) (type : CType) (name : Place) (mark : Mark) → Expr
     Comma : (first second : Expr) (mark : Mark) → Expr
 
   -- an expression that designates an object (6.3.3.1); of an index, `is_second` says that the pointer is
-  -- the second operand; a literal's object gets its values each time
+  -- the second operand. A literal's object gets its values each time: that of a compound literal, which is
+  -- written, or the one that is implied where an array member of a structure's value is asked for (6.2.4)
   pub data Lvalue : Type 0 where
     Object : (id : ℕ) (type : CType) (mark : Mark) → Lvalue
     Deref : (pointer : Expr) (mark : Mark) → Lvalue
     Index : (is_second : Bool) (first second : Expr) (mark : Mark) → Lvalue
     Field : (structure : Lvalue) (rank : ℕ) (type : CType) (name : Place) (mark : Mark) → Lvalue
     Arrow : (pointer : Expr) (rank : ℕ) (type : CType) (name : Place) (mark : Mark) → Lvalue
-    Literal : (id : ℕ) (type : CType) (values : Initials) (mark : Mark) → Lvalue
+    Literal : (origin : Origin) (id : ℕ) (type : CType) (values : Initials) (mark : Mark) → Lvalue
 
   pub data Exprs : Type 0 where
     no_exprs : Exprs

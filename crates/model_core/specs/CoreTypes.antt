@@ -93,7 +93,7 @@ abbrev mutual
   type_of (unit.Call function arguments mark) = called_type (form_of_type (type_of function))
   type_of (unit.Assign assignment object value mark) = unqualified (object_type object)
   type_of (unit.Step op side type object mark) = unqualified (object_type object)
-  type_of (unit.Member structure rank type name mark) = unqualified type
+  type_of (unit.MemberValue structure rank type name mark) = unqualified type
   type_of (unit.Comma first second mark) = type_of second
 
   -- the type of the object that an lvalue designates, with its qualifiers
@@ -103,7 +103,7 @@ abbrev mutual
   object_type (unit.Index is_second first second mark) = pointee (form_of_type (if is_second then type_of second else type_of first))
   object_type (unit.Field structure rank type name mark) = type
   object_type (unit.Arrow pointer rank type name mark) = type
-  object_type (unit.Literal id type values mark) = type
+  object_type (unit.Literal origin id type values mark) = type
 
 abbrev pub types_of : unit.Exprs → List CType
 types_of unit.no_exprs = []

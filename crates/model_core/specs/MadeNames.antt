@@ -5,9 +5,9 @@ use Rattle.std.specs.Fmt.{decimal}
 use Rattle.model_core.specs.TypedCore.{object_ids, function_ids}
 use Rattle.model_core.specs.Core as unit
 
--- the name of a function literal that became a function, by its rank among them, counted from 1
-abbrev pub lifted_name : (rank : ℕ) → List ℕ
-lifted_name rank = codes "cake_f" ++ decimal (suc rank)
+-- the name of a function literal that became a function, by how many of them come before it
+abbrev pub lifted_name : (before : ℕ) → List ℕ
+lifted_name before = codes "cake_f" ++ decimal (suc before)
 
 -- each number is less than the next
 abbrev pub are_rising : List ℕ → Bool

@@ -46,18 +46,18 @@ abbrev pub member_value_is : List Structure → (structure : CType) → (rank : 
 member_value_is structs structure rank type = has_value_type type (member_in rank (members_of_form structs (form_of_type structure)))
 
 abbrev mutual
-  -- a type that is const, or has const elements or members; of structures it is given
+  -- a type that is const, or has const elements or members, by which structures have some
   pub holds_const : (StructId → Bool) → CType → Bool
-  holds_const given (typed form quals) = quals.has_const || form_holds_const given form
+  holds_const of_struct (typed form quals) = quals.has_const || form_holds_const of_struct form
 
   pub form_holds_const : (StructId → Bool) → Form → Bool
-  form_holds_const given (Array type count) = holds_const given type
-  form_holds_const given (Struct id) = given id
-  form_holds_const given form = false
+  form_holds_const of_struct (Array type count) = holds_const of_struct type
+  form_holds_const of_struct (Struct id) = of_struct id
+  form_holds_const of_struct form = false
 
 abbrev pub members_hold_const : (StructId → Bool) → Option (List Member) → Bool
-members_hold_const given None = false
-members_hold_const given (Some members) = list_any (λ m. holds_const given m.ty) members
+members_hold_const of_struct None = false
+members_hold_const of_struct (Some members) = list_any (λ m. holds_const of_struct m.ty) members
 
 -- a structure, where structures lie in one another at most this deep
 abbrev pub struct_holds_const : (depth : ℕ) → List Structure → StructId → Bool

@@ -2,6 +2,7 @@
 -- and expressions (ISO/IEC 9899:2024, 6.3.3.1, 6.5, 6.8): lvalues and operations. And that these places tell
 -- them apart.
 use Rattle.std.specs.Prelude.{◌≡◌, Bool, true, false, List, [], ◌∷◌, ◌++◌, Contains, IsTrue}
+use Rattle.model_types.specs.declared.marks.Origin.TheVariants.{Implied}
 use Rattle.model_core.specs.SourceMarks.{expr_mark, lvalue_mark}
 use Rattle.model_core.specs.Core as unit
 
@@ -27,7 +28,7 @@ abbrev mutual
   in_expr (unit.Assign (unit.Compound op type) object value mark) =
       Operates (unit.Assign (unit.Compound op type) object value mark) ∷ (in_lvalue object ++ in_expr value)
   in_expr (unit.Step op side type object mark) = Operates (unit.Step op side type object mark) ∷ in_lvalue object
-  in_expr (unit.Member structure rank type name mark) = Operates (unit.Member structure rank type name mark) ∷ in_expr structure
+  in_expr (unit.MemberValue structure rank type name mark) = Operates (unit.MemberValue structure rank type name mark) ∷ in_expr structure
   in_expr (unit.Comma a b mark) = in_expr a ++ in_expr b
 
   -- itself, and those in it
@@ -37,7 +38,7 @@ abbrev mutual
   in_lvalue (unit.Index is_second a b mark) = Designates (unit.Index is_second a b mark) ∷ (in_expr a ++ in_expr b)
   in_lvalue (unit.Field structure rank type name mark) = Designates (unit.Field structure rank type name mark) ∷ in_lvalue structure
   in_lvalue (unit.Arrow pointer rank type name mark) = Designates (unit.Arrow pointer rank type name mark) ∷ in_expr pointer
-  in_lvalue (unit.Literal id type values mark) = Designates (unit.Literal id type values mark) ∷ in_values values
+  in_lvalue (unit.Literal origin id type values mark) = Designates (unit.Literal origin id type values mark) ∷ in_values values
 
   pub in_exprs : unit.Exprs → List Part
   in_exprs unit.no_exprs = []
@@ -88,14 +89,15 @@ in_functions (g ∷ gs) = in_maybe_stat g.body ++ in_functions gs
 abbrev pub parts_in : unit.Core → List Part
 parts_in core = in_functions core.functions
 
-abbrev pub is_literal : unit.Lvalue → Bool
-is_literal (unit.Literal id type values mark) = true
-is_literal object = false
+-- the object of a structure's value, which stands where the value does
+abbrev pub is_implied : unit.Lvalue → Bool
+is_implied (unit.Literal Implied id type values mark) = true
+is_implied object = false
 
 -- places tell the parts of a unit apart: two lvalues at one place are the same lvalue, as the copies of a
--- deferred statement are, and no operation stands where an lvalue does, but for the object of a literal
+-- deferred statement are, and no operation stands where an lvalue does, but for the object of its value
 pub record PlacesTell (core : unit.Core) : Type 0 where
   pub lvalues : (object other : unit.Lvalue) → Contains (parts_in core) (Designates object) → Contains (parts_in core) (Designates other) →
       (lvalue_mark object).at ≡ (lvalue_mark other).at → object ≡ other
   pub operations : (operation : unit.Expr) (object : unit.Lvalue) → Contains (parts_in core) (Operates operation) →
-      Contains (parts_in core) (Designates object) → (expr_mark operation).at ≡ (lvalue_mark object).at → IsTrue (is_literal object)
+      Contains (parts_in core) (Designates object) → (expr_mark operation).at ≡ (lvalue_mark object).at → IsTrue (is_implied object)

@@ -51,32 +51,32 @@ abbrev mutual
   -- a structure that an object of the type holds, or that is an element of an array behind a pointer, is one
   -- of these; another that is pointed to needn't be
   pub is_whole : (StructId → Bool) → CType → Bool
-  is_whole given (typed form quals) = is_whole_form given form
+  is_whole these (typed form quals) = is_whole_form these form
 
   pub is_whole_form : (StructId → Bool) → Form → Bool
-  is_whole_form given (Struct id) = given id
-  is_whole_form given (Array type count) = is_whole given type
-  is_whole_form given (Pointer type) = is_named given type
-  is_whole_form given (Function result parameters is_variadic) = is_named given result && are_named given parameters
-  is_whole_form given form = true
+  is_whole_form these (Struct id) = these id
+  is_whole_form these (Array type count) = is_whole these type
+  is_whole_form these (Pointer type) = is_named these type
+  is_whole_form these (Function result parameters is_variadic) = is_named these result && are_named these parameters
+  is_whole_form these form = true
 
   pub is_named : (StructId → Bool) → CType → Bool
-  is_named given (typed form quals) = is_named_form given form
+  is_named these (typed form quals) = is_named_form these form
 
   pub is_named_form : (StructId → Bool) → Form → Bool
-  is_named_form given (Struct id) = true
-  is_named_form given (Array type count) = is_whole given type
-  is_named_form given (Pointer type) = is_named given type
-  is_named_form given (Function result parameters is_variadic) = is_named given result && are_named given parameters
-  is_named_form given form = true
+  is_named_form these (Struct id) = true
+  is_named_form these (Array type count) = is_whole these type
+  is_named_form these (Pointer type) = is_named these type
+  is_named_form these (Function result parameters is_variadic) = is_named these result && are_named these parameters
+  is_named_form these form = true
 
   pub are_named : (StructId → Bool) → Types → Bool
-  are_named given no_types = true
-  are_named given (more_types type types) = is_named given type && are_named given types
+  are_named these no_types = true
+  are_named these (more_types type types) = is_named these type && are_named these types
 
 abbrev pub members_whole : (StructId → Bool) → Option (List Member) → Bool
-members_whole given None = false
-members_whole given (Some members) = list_all (λ m. is_whole given m.ty) members
+members_whole these None = false
+members_whole these (Some members) = list_all (λ m. is_whole these m.ty) members
 
 -- structures can stand in an order in which each is complete where it has to be (6.7.7.3)
 abbrev pub has_order : (depth : ℕ) → List Structure → StructId → Bool

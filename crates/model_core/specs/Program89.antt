@@ -26,7 +26,7 @@ mutual
     Name : (name : List ℕ) → Expr
     Constant : (number : ℕ) (suffix : Suffix) → Expr
     Index : (left right : Expr) → Expr
-    Member : (structure : Expr) (name : List ℕ) → Expr
+    Dot : (structure : Expr) (name : List ℕ) → Expr
     Arrow : (pointer : Expr) (name : List ℕ) → Expr
     Call : (function : Expr) (arguments : Exprs) → Expr
     Unary : (op : Prefix) (operand : Expr) → Expr

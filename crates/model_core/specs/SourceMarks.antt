@@ -20,7 +20,7 @@ expr_mark (unit.Convert origin type operand mark) = mark
 expr_mark (unit.Call function arguments mark) = mark
 expr_mark (unit.Assign assignment object value mark) = mark
 expr_mark (unit.Step op side type object mark) = mark
-expr_mark (unit.Member structure rank type name mark) = mark
+expr_mark (unit.MemberValue structure rank type name mark) = mark
 expr_mark (unit.Comma first second mark) = mark
 
 abbrev pub lvalue_mark : unit.Lvalue → Mark
@@ -29,7 +29,7 @@ lvalue_mark (unit.Deref pointer mark) = mark
 lvalue_mark (unit.Index is_second first second mark) = mark
 lvalue_mark (unit.Field structure rank type name mark) = mark
 lvalue_mark (unit.Arrow pointer rank type name mark) = mark
-lvalue_mark (unit.Literal id type values mark) = mark
+lvalue_mark (unit.Literal origin id type values mark) = mark
 
 abbrev pub at_mark : Mark → Option Place
 at_mark mark = Some mark.at

@@ -39,7 +39,7 @@ abbrev mutual
       (is_address a && is_integer_constant b) || (is_integer_constant a && is_address b)
   is_static_place (unit.Field structure rank type name mark) = is_static_place structure
   is_static_place (unit.Arrow pointer rank type name mark) = is_address pointer
-  is_static_place (unit.Literal id type values mark) = false
+  is_static_place (unit.Literal origin id type values mark) = false
 
 abbrev pub are_constant : unit.Initials → Bool
 are_constant unit.no_initials = true

@@ -1,5 +1,5 @@
 -- When an expression of a core is typed by itself (ISO/IEC 9899:2024, 6.5).
-use Rattle.std.specs.Prelude.{Bool, true, ◌&&◌, not, if◌then◌else◌}
+use Rattle.std.specs.Prelude.{Bool, true, false, ◌&&◌, not, [], if◌then◌else◌}
 use Rattle.model_types.specs.declared.marks.Origin.{Origin}
 use Rattle.model_types.specs.declared.marks.Origin.TheVariants.{Written, Implied}
 use Rattle.model_types.specs.Types.{Form, form_of_type}
@@ -22,6 +22,16 @@ abbrev pub assignment_fits : unit.Assignment → unit.Lvalue → unit.Expr → B
 assignment_fits unit.Plain object value = same_value_type (object_type object) (type_of value)
 assignment_fits (unit.Compound op type) object value = done_fits op (form_of_type type) (object_form object) (form_of value)
 
+-- one value, for the whole object
+abbrev pub is_one_value : unit.Initials → Bool
+is_one_value (unit.more_initials [] offset type e unit.no_initials) = true
+is_one_value values = false
+
+-- the object of an implied literal holds a structure's value
+abbrev pub values_fit : Origin → Form → unit.Initials → Bool
+values_fit Written form values = true
+values_fit Implied form values = is_struct form && is_one_value values
+
 abbrev mutual
   pub is_typed : unit.Expr → Bool
   is_typed (unit.Constant value type mark) = constant_fits value (form_of_type type)
@@ -40,7 +50,7 @@ abbrev mutual
       is_typed_lvalue object && is_typed value && may_be_assigned (object_type object) && assignment_fits assignment object value
   is_typed (unit.Step op side type object mark) =
       is_typed_lvalue object && may_be_assigned (object_type object) && step_fits (form_of_type type) (object_form object)
-  is_typed (unit.Member structure rank type name mark) = is_typed structure && is_struct (form_of structure) && is_storable (form_of_type type)
+  is_typed (unit.MemberValue structure rank type name mark) = is_typed structure && is_struct (form_of structure) && is_storable (form_of_type type)
   is_typed (unit.Comma a b mark) = is_typed a && is_typed b
 
   pub is_typed_lvalue : unit.Lvalue → Bool
@@ -52,7 +62,7 @@ abbrev mutual
   is_typed_lvalue (unit.Field structure rank type name mark) = is_typed_lvalue structure && is_struct (object_form structure)
   is_typed_lvalue (unit.Arrow pointer rank type name mark) =
       is_typed pointer && is_pointer (form_of pointer) && is_struct (form_of_type (pointee (form_of pointer)))
-  is_typed_lvalue (unit.Literal id type values mark) = are_typed_values values
+  is_typed_lvalue (unit.Literal origin id type values mark) = values_fit origin (form_of_type type) values && are_typed_values values
 
   pub are_typed : unit.Exprs → Bool
   are_typed unit.no_exprs = true

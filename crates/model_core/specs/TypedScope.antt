@@ -113,7 +113,7 @@ abbrev mutual
       expr_stands s function && exprs_stand s arguments && call_is_usable s.core.structs (form_of_type (pointee (form_of function)))
   expr_stands s (unit.Assign assignment object value mark) = lvalue_stands s object && expr_stands s value && assigned_is s.core.structs assignment object
   expr_stands s (unit.Step op side type object mark) = lvalue_stands s object && can_move s.core.structs (object_form object)
-  expr_stands s (unit.Member structure rank type name mark) = expr_stands s structure && member_value_is s.core.structs (type_of structure) rank type
+  expr_stands s (unit.MemberValue structure rank type name mark) = expr_stands s structure && member_value_is s.core.structs (type_of structure) rank type
   expr_stands s (unit.Comma a b mark) = expr_stands s a && expr_stands s b
 
   pub lvalue_stands : Scope → unit.Lvalue → Bool
@@ -123,7 +123,7 @@ abbrev mutual
       expr_stands s a && expr_stands s b && can_move s.core.structs (form_of (if is_second then b else a))
   lvalue_stands s (unit.Field structure rank type name mark) = lvalue_stands s structure && member_is s.core.structs (object_type structure) rank type
   lvalue_stands s (unit.Arrow pointer rank type name mark) = expr_stands s pointer && member_is s.core.structs (pointee (form_of pointer)) rank type
-  lvalue_stands s (unit.Literal id type values mark) =
+  lvalue_stands s (unit.Literal origin id type values mark) =
       object_is s id type (unit.object_of s.core.objects id) && is_automatic (unit.object_of s.core.objects id)
       && is_possible s.core.structs type && is_complete s.core.structs type && values_stand s values && parts_fit s.core.structs type values
 

@@ -4,17 +4,17 @@ use Rattle.std.specs.Prelude.{codes}
 use Rattle.std.specs.Ordering.{int_eq}
 use Rattle.std.specs.Str.{bytes_eq}
 use Rattle.cake_base.specs.declared.places.Place.{Place}
-use Rattle.model_runs.specs.Memory.{Block, Global, Local, Heap, Handle, HandleOf, Outside, Given, Scalar, Number, Null, Address, Code, Value, Missing, Single, Structure, Contents, contents_of}
+use Rattle.model_runs.specs.Memory.{Block, Global, Local, Heap, Handle, HandleOf, Outside, Given, Scalar, Number, Null, Address, Code, Value, Missing, Single, StructureValue, Contents, contents_of}
 use Rattle.model_runs.specs.Accesses.{release_at}
 use Rattle.model_runs.specs.Outside.{Passed, Answering, NoAnswer, IntegerAnswer, HandleAnswer, OtherAnswer, Handed, Shown, TextAt, Refused, all_handed, text_of, text_at, block_size, shown, all_shown, released_value, owners_released, nothing, take_answer, new_handle, integer_result, result_of, null_value, note, answered, with_handed, call_outside}
 use Rattle.model_runs.specs.Allocation.{new_block, allocated, noted_free, freed, call_builtin}
 use Rattle.model_runs.specs.Run.{Argument, ◌▷◌, just, StringAt}
-use Rattle.model_runs.proofs.Related.{Rel, then_related, just_related, ends_related, given_related, if_related, release_related}
+use Rattle.model_runs.proofs.Related.{Rel, then_related, just_related, ends_related, unless_undefined_related, if_related, release_related}
 use Rattle.model_core.specs.BuiltinTypes.{Builtin, Malloc, Calloc, Free, Exit, Abort}
 
 module _ (j d : ℕ) where
   text_related : (place : Option Place) (block : Block) (offset : ℤ) → Rel j d (text_of place block offset) (text_of place block offset)
-  text_related place block offset = record { at = λ s le. (given_related j d place (text_at (suc (block_size (contents_of s.memory block))) s.memory block offset)).at s le }
+  text_related place block offset = record { at = λ s le. (unless_undefined_related j d place (text_at (suc (block_size (contents_of s.memory block))) s.memory block offset)).at s le }
 
   shown_related : (place : Option Place) (handed : Handed) → Rel j d (shown place handed) (shown place handed)
   shown_related place (Shown argument) = just_related j d argument
@@ -31,7 +31,7 @@ module _ (j d : ℕ) where
   value_released : (place : Option Place) (v : Value) → Rel j d (released_value place v) (released_value place v)
   value_released place Missing = just_related j d tt
   value_released place (Single scalar) = release_related j d place scalar
-  value_released place (Structure cells) = just_related j d tt
+  value_released place (StructureValue cells) = just_related j d tt
 
   owners_related : (place : Option Place) (passed : List Passed) → Rel j d (owners_released place passed) (owners_released place passed)
   owners_related place [] = just_related j d tt

@@ -3,12 +3,12 @@
 use Rattle.std.proofs.Common.{◌≡◌, ◌⊎◌, ℕ, zero, suc, ◌+◌, ◌≤◌, ℤ, Bool, true, false, ◌&&◌, Option, Result, Ok, Err, if◌then◌else◌, refl, sym, ap, ◌∙◌, subst, inl, inr, arith}
 use Rattle.cake_base.specs.declared.places.Place.{Place}
 use Rattle.model_types.specs.declared.outcomes.Cause.{Cause}
-use Rattle.model_runs.specs.Memory.{Memory, Value, Missing, Single, Structure, Scalar, Block}
+use Rattle.model_runs.specs.Memory.{Memory, Value, Missing, Single, StructureValue, Scalar, Block}
 use Rattle.model_types.specs.Shapes.{Shape}
 use Rattle.model_runs.specs.Loads.{load}
 use Rattle.model_runs.specs.Stores.{store}
 use Rattle.model_runs.specs.Accesses.{loaded, load_from, is_structure, is_outside, remember, store_to, release, release_at}
-use Rattle.model_runs.specs.Run.{Ending, Out, Leaves, State, Step, Goes, Ends, Act, ◌▷◌, follow, just, ends, given, turn_of, take_turn, choose, used, scalar_of, Flow, Falls, Breaks, Continues, Gives, then_do, then_again, loop}
+use Rattle.model_runs.specs.Run.{Ending, Out, Leaves, State, Step, Goes, Ends, Act, ◌▷◌, follow, just, ends, unless_undefined, turn_of, take_turn, choose, used, scalar_of, Flow, Falls, Breaks, Continues, Gives, then_do, then_again, loop}
 
 -- a state with more turns
 abbrev pub plus : ℕ → State → State
@@ -62,9 +62,9 @@ just_related j d v = record { at = λ s le. inl (refl, omega arith) }
 pub ends_related : {A : Type 0} (j d : ℕ) (ending : Ending) → Rel {A = A} j d (ends ending) (ends ending)
 ends_related j d ending = record { at = λ s le. inl (refl, omega arith) }
 
-pub given_related : {A : Type 0} (j d : ℕ) (place : Option Place) (r : Result A Cause) → Rel j d (given place r) (given place r)
-given_related j d place (Ok v) = record { at = λ s le. inl (refl, omega arith) }
-given_related j d place (Err cause) = record { at = λ s le. inl (refl, omega arith) }
+pub unless_undefined_related : {A : Type 0} (j d : ℕ) (place : Option Place) (r : Result A Cause) → Rel j d (unless_undefined place r) (unless_undefined place r)
+unless_undefined_related j d place (Ok v) = record { at = λ s le. inl (refl, omega arith) }
+unless_undefined_related j d place (Err cause) = record { at = λ s le. inl (refl, omega arith) }
 
 pub if_related : {A : Type 0} (j d : ℕ) (b : Bool) (m m' n n' : Act A) → Rel j d m m' → Rel j d n n' → Rel j d (if b then m else n) (if b then m' else n')
 if_related j d true m m' n n' first second = first
@@ -77,12 +77,12 @@ choose_related j d false m m' n n' first second = second
 pub used_related : (j d : ℕ) (place : Option Place) (v : Value) → Rel j d (used place v) (used place v)
 used_related j d place Missing = record { at = λ s le. inl (refl, omega arith) }
 used_related j d place (Single scalar) = record { at = λ s le. inl (refl, omega arith) }
-used_related j d place (Structure cells) = record { at = λ s le. inl (refl, omega arith) }
+used_related j d place (StructureValue cells) = record { at = λ s le. inl (refl, omega arith) }
 
 pub scalar_related : (j d : ℕ) (place : Option Place) (v : Value) → Rel j d (scalar_of place v) (scalar_of place v)
 scalar_related j d place Missing = record { at = λ s le. inl (refl, omega arith) }
 scalar_related j d place (Single scalar) = record { at = λ s le. inl (refl, omega arith) }
-scalar_related j d place (Structure cells) = record { at = λ s le. inl (refl, omega arith) }
+scalar_related j d place (StructureValue cells) = record { at = λ s le. inl (refl, omega arith) }
 
 loaded_related : (j : ℕ) (block : Block) (place : Option Place) (r : Result Value Cause) (s : State) → Over j s.turns (loaded block place r s) (loaded block place r (plus j s))
 loaded_related j block place (Ok v) s = inl (refl, omega arith)

@@ -6,7 +6,7 @@ use Rattle.model_types.specs.declared.operators.LogicOp.TheVariants.{And, Or}
 use Rattle.model_types.specs.declared.numbers.BinOp.{BinOp}
 use Rattle.model_types.specs.declared.marks.Mark.{Mark}
 use Rattle.model_types.specs.Types.{CType, form_of_type}
-use Rattle.model_runs.specs.Memory.{Block, Scalar, Number, Null, Address, Code, Value, Missing, Single, Structure}
+use Rattle.model_runs.specs.Memory.{Block, Scalar, Number, Null, Address, Code, Value, Missing, Single, StructureValue}
 use Rattle.model_runs.specs.Applied.{is_true, applied, applied_unary}
 use Rattle.model_runs.specs.Run.{Act}
 use Rattle.model_core.specs.CoreTypes.{is_void, type_of, types_of, object_type, shape_of, basic_of, step_size, int_type}
@@ -19,7 +19,7 @@ use Rattle.model_core.specs.SourceMarks.{at_mark, lvalue_mark, expr_mark, tested
 use Rattle.model_runs.specs.SourceOperations.{to_type, step_op, load_object, store_object, operated_on, member_value, stepped}
 use Rattle.model_runs.specs.SourceValues.{operand, needed, converted_value, chosen, followed, indexed, evaluate, locate, values_of, initialise}
 use Rattle.model_core.specs.Core as unit
-use Rattle.model_runs.proofs.Related.{Rel, then_related, just_related, ends_related, given_related, if_related, choose_related, used_related, scalar_related, load_related, store_related}
+use Rattle.model_runs.proofs.Related.{Rel, then_related, just_related, ends_related, unless_undefined_related, if_related, choose_related, used_related, scalar_related, load_related, store_related}
 
 -- the frame of a call, with other calls
 abbrev pub with_callee : Frame → Callee → Frame
@@ -74,7 +74,7 @@ module _ (j d : ℕ) where
     object_stored object l v = then_related j d _ _ _ _ (store_related j d (at_mark (lvalue_mark object)) (shape_of f.core.structs (object_type object)) l.block l.offset v) (λ u. just_related j d v)
 
     operated_related : (op : BinOp) (mark : Mark) (t u : CType) (x y : Scalar) → Rel j d (operated_on f op mark t u x y) (operated_on g op mark t u x y)
-    operated_related op mark t u x y = given_related j d (at_mark mark) (applied op (basic_of (form_of_type t)) (step_size f.core.structs t u) x y)
+    operated_related op mark t u x y = unless_undefined_related j d (at_mark mark) (applied op (basic_of (form_of_type t)) (step_size f.core.structs t u) x y)
 
     stepped_related : (op : BinOp) (mark : Mark) (t u w : CType) (x y : Scalar) → Rel j d (stepped f op mark t u w x y) (stepped g op mark t u w x y)
     stepped_related op mark t u w x y = then_related j d _ _ _ _ (operated_related op mark t w (to_type t x) y) (λ z. just_related j d _)
@@ -82,7 +82,7 @@ module _ (j d : ℕ) where
     member_related : (mark : Mark) (t u : CType) (rank : ℕ) (v : Value) → Rel j d (member_value f mark t u rank v) (member_value g mark t u rank v)
     member_related mark t u rank Missing = ends_related j d _
     member_related mark t u rank (Single x) = ends_related j d _
-    member_related mark t u rank (Structure cells) = given_related j d (at_mark mark) (value_at (shape_of f.core.structs u) cells (unwrap_or (member_offset f.core.structs t rank) 0))
+    member_related mark t u rank (StructureValue cells) = unless_undefined_related j d (at_mark mark) (value_at (shape_of f.core.structs u) cells (unwrap_or (member_offset f.core.structs t rank) 0))
 
     indexed_related : (e : unit.Expr) (mark : Mark) (p x : Scalar) → Rel j d (indexed f e mark p x) (indexed g e mark p x)
     indexed_related e mark p x = then_related j d _ _ _ _ (pointed_related (tested_at e (at_mark mark)) p) (λ l. just_related j d _)
@@ -94,7 +94,7 @@ module _ (j d : ℕ) where
       evaluate_related (unit.Address origin object mark) = then_related j d _ _ _ _ (locate_related object) (λ l. single_related _)
       evaluate_related (unit.FunctionRef id type by_name mark) = single_related _
       evaluate_related (unit.Unary op a mark) =
-          then_related j d _ _ _ _ (operand_related a _ _ (evaluate_related a)) (λ x. then_related j d _ _ _ _ (given_related j d (at_mark mark) (applied_unary op (basic_of (form_of_type (type_of a))) x)) single_related)
+          then_related j d _ _ _ _ (operand_related a _ _ (evaluate_related a)) (λ x. then_related j d _ _ _ _ (unless_undefined_related j d (at_mark mark) (applied_unary op (basic_of (form_of_type (type_of a))) x)) single_related)
       evaluate_related (unit.Binary op a b mark) =
           then_related j d _ _ _ _ (operand_related a _ _ (evaluate_related a))
           (λ x. then_related j d _ _ _ _ (operand_related b _ _ (evaluate_related b))
@@ -122,7 +122,7 @@ module _ (j d : ℕ) where
           (λ l. then_related j d _ _ _ _ (then_related j d _ _ _ _ (object_loaded object l) (λ v. scalar_related j d (at_mark (lvalue_mark object)) v))
           (λ old. then_related j d _ _ _ _ (stepped_related (step_op op) mark type (object_type object) int_type old (Number (pos 1)))
           (λ new. then_related j d _ _ _ _ (object_stored object l (Single new)) (λ v. just_related j d _))))
-      evaluate_related (unit.Member structure rank type name mark) =
+      evaluate_related (unit.MemberValue structure rank type name mark) =
           then_related j d _ _ _ _ (needed_related structure _ _ (evaluate_related structure)) (λ v. member_related mark (type_of structure) type rank v)
       evaluate_related (unit.Comma a b mark) = then_related j d _ _ _ _ (evaluate_related a) (λ v. evaluate_related b)
 
@@ -136,7 +136,7 @@ module _ (j d : ℕ) where
       locate_related (unit.Field structure rank type name mark) = then_related j d _ _ _ _ (locate_related structure) (λ l. just_related j d _)
       locate_related (unit.Arrow pointer rank type name mark) =
           then_related j d _ _ _ _ (followed_related pointer mark _ _ (evaluate_related pointer)) (λ l. just_related j d _)
-      locate_related (unit.Literal id type values mark) = then_related j d _ _ _ _ (initialise_related (block_of f.core f.call id) values) (λ u. just_related j d _)
+      locate_related (unit.Literal origin id type values mark) = then_related j d _ _ _ _ (initialise_related (block_of f.core f.call id) values) (λ u. just_related j d _)
 
       pub values_related : (es : unit.Exprs) → Rel j d (values_of f es) (values_of g es)
       values_related unit.no_exprs = just_related j d []

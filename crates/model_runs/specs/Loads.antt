@@ -6,7 +6,7 @@ use Rattle.model_types.specs.declared.numbers.Basic.TheVariants.{Bool as bool, U
 use Rattle.model_types.specs.declared.outcomes.Cause.{Cause}
 use Rattle.model_types.specs.declared.outcomes.Cause.TheVariants.{Uninitialised, Dead, Outside, Kind}
 use Rattle.model_types.specs.Operations.{convert}
-use Rattle.model_runs.specs.Memory.{Block, Scalar, Number, Null, Address, Code, Content, Holds, Zeroes, Cell, Value, Single, Structure, Contents, Memory, contents_of}
+use Rattle.model_runs.specs.Memory.{Block, Scalar, Number, Null, Address, Code, Content, Holds, Zeroes, Cell, Value, Single, StructureValue, Contents, Memory, contents_of}
 use Rattle.model_types.specs.Shapes.{Shape, IntegerShape, PointerShape, StructShape, shape_size}
 
 -- the bytes of a cell and those from `offset` on, `size` of them, have one in common
@@ -102,7 +102,7 @@ as_single (Err cause) = Err cause
 
 -- what is read of cells; of a structure nothing is asked
 abbrev pub value_at : Shape → List Cell → (offset : ℕ) → Result Value Cause
-value_at (StructShape size) cells offset = Ok (Structure (part_of offset size cells))
+value_at (StructShape size) cells offset = Ok (StructureValue (part_of offset size cells))
 value_at shape cells offset = as_single (scalar_at shape cells offset)
 
 -- these bytes lie in a block of this size

@@ -43,7 +43,7 @@ pub record Cell : Type 0 where
 pub data Value : Type 0 where
   Missing : Value
   Single : (scalar : Scalar) → Value
-  Structure : (cells : List Cell) → Value
+  StructureValue : (cells : List Cell) → Value
 
 -- what a block is: its size in bytes, its marks, and its cells, none of which overlap
 pub record Contents : Type 0 where

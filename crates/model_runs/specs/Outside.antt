@@ -13,7 +13,7 @@ use Rattle.model_runs.specs.Memory.{Block, Handle, HandleOf, Number, Null, Addre
 use Rattle.model_types.specs.Shapes.{IntegerShape}
 use Rattle.model_runs.specs.Loads.{load}
 use Rattle.model_runs.specs.Accesses.{is_outside, release_at}
-use Rattle.model_runs.specs.Run.{Argument, Integer, NullPointer, HandleNumber, HandleOf as HandleOfObject, StringAt, Goes, Leaves, Act, ◌▷◌, just, ends, given}
+use Rattle.model_runs.specs.Run.{Argument, Integer, NullPointer, HandleNumber, HandleOf as HandleOfObject, StringAt, Goes, Leaves, Act, ◌▷◌, just, ends, unless_undefined}
 
 -- a value that an outside function is handed, whether a string is read at it, and whether it is released
 pub record Passed : Type 0 where
@@ -81,7 +81,7 @@ block_size None = 0
 block_size (Some contents) = contents.size
 
 abbrev pub text_of : Option Place → Block → (offset : ℤ) → Act (List ℕ)
-text_of place block offset = λ s. given place (text_at (suc (block_size (contents_of s.memory block))) s.memory block offset) s
+text_of place block offset = λ s. unless_undefined place (text_at (suc (block_size (contents_of s.memory block))) s.memory block offset) s
 
 -- 1. strings are read, from the left
 abbrev pub shown : Option Place → Handed → Act Argument

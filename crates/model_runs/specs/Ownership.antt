@@ -75,7 +75,7 @@ abbrev mutual
   reached_through (unit.Index is_second a b mark) = if is_second then indexed_through b else indexed_through a
   reached_through (unit.Field structure rank type name mark) = reached_through structure
   reached_through (unit.Arrow pointer rank type name mark) = read_name pointer
-  reached_through (unit.Literal id type values mark) = None
+  reached_through (unit.Literal origin id type values mark) = None
 
   pub indexed_through : unit.Expr → Option ReadName
   indexed_through (unit.Address Implied array mark) = reached_through array

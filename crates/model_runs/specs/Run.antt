@@ -3,7 +3,7 @@ use Rattle.std.specs.Prelude.{ℕ, zero, suc, ℤ, Bool, true, false, List, [], 
 use Rattle.cake_base.specs.declared.places.Place.{Place}
 use Rattle.model_types.specs.declared.outcomes.Cause.{Cause}
 use Rattle.model_types.specs.declared.outcomes.Cause.TheVariants.{NoValue, Kind}
-use Rattle.model_runs.specs.Memory.{Memory, no_blocks, Value, Missing, Single, Structure, Scalar}
+use Rattle.model_runs.specs.Memory.{Memory, no_blocks, Value, Missing, Single, StructureValue, Scalar}
 
 -- what an outside function is handed: an integer, a null pointer, a handle, the handle of an outside
 -- object, or the string at a pointer
@@ -95,9 +95,9 @@ abbrev pub ends : {A : Type 0} → Ending → Act A
 ends ending = λ s. Ends ending s
 
 -- the value of an operation, or the end of the run at this place
-abbrev pub given : {A : Type 0} → Option Place → Result A Cause → State → Step A
-given place (Ok value) state = Goes value state
-given place (Err cause) state = Ends (Undefined cause place) state
+abbrev pub unless_undefined : {A : Type 0} → Option Place → Result A Cause → State → Step A
+unless_undefined place (Ok value) state = Goes value state
+unless_undefined place (Err cause) state = Ends (Undefined cause place) state
 
 -- takes one of the turns that are left, or ends the run where none is
 abbrev pub turn_of : {A : Type 0} → (turns : ℕ) → State → (State → Step A) → Step A
@@ -123,13 +123,13 @@ choose false yes_part no_part = no_part
 abbrev pub used : Option Place → Value → Act Value
 used place Missing = ends (Undefined NoValue place)
 used place (Single scalar) = just (Single scalar)
-used place (Structure cells) = just (Structure cells)
+used place (StructureValue cells) = just (StructureValue cells)
 
 -- the scalar of a value that is used
 abbrev pub scalar_of : Option Place → Value → Act Scalar
 scalar_of place Missing = ends (Undefined NoValue place)
 scalar_of place (Single scalar) = just scalar
-scalar_of place (Structure cells) = ends (Undefined Kind place)
+scalar_of place (StructureValue cells) = ends (Undefined Kind place)
 
 -- how control leaves a statement: by its end, by `break` or `continue`, or with the value of a return
 pub data Flow : Type 0 where

@@ -1,27 +1,24 @@
 -- What the expressions of a unit do with the values of their operands (ISO/IEC 9899:2024, 6.3, 6.5).
-use Rattle.std.specs.Prelude.{ℕ, ℤ, pos, ◌+ℤ◌, Bool, true, false, List, Option, if◌then◌else◌}
+use Rattle.std.specs.Prelude.{ℕ, ℤ, pos, List, if◌then◌else◌}
 use Rattle.std.specs.Option.{unwrap_or}
-use Rattle.cake_base.specs.declared.places.Place.{Place}
 use Rattle.model_types.specs.declared.numbers.BinOp.{BinOp}
 use Rattle.model_types.specs.declared.numbers.BinOp.TheVariants.{Add, Sub}
-use Rattle.model_types.specs.declared.operators.LogicOp.{LogicOp}
-use Rattle.model_types.specs.declared.operators.LogicOp.TheVariants.{And, Or}
 use Rattle.model_types.specs.declared.operators.StepOp.{StepOp}
 use Rattle.model_types.specs.declared.operators.StepOp.TheVariants.{Increment, Decrement}
 use Rattle.model_types.specs.declared.operators.StepSide.{StepSide}
 use Rattle.model_types.specs.declared.operators.StepSide.TheVariants.{Prefix, Postfix}
 use Rattle.model_types.specs.declared.marks.Mark.{Mark}
-use Rattle.model_types.specs.declared.outcomes.Cause.TheVariants.{Null as NullCause, Kind}
-use Rattle.model_types.specs.Types.{CType, typed, Form, Void, Integer, Enum, Pointer, Struct, form_of_type}
+use Rattle.model_types.specs.declared.outcomes.Cause.TheVariants.{Kind}
+use Rattle.model_types.specs.Types.{CType, typed, Void, Integer, Enum, Pointer, form_of_type}
 use Rattle.model_types.specs.declared.numbers.Basic.TheVariants.{Bool as bool}
 use Rattle.model_types.specs.Operations.{convert}
 use Rattle.model_types.specs.Structures.{Structure}
 use Rattle.model_types.specs.Layout.{member_offset}
-use Rattle.model_runs.specs.Memory.{Scalar, Number, Null, Address, Code, Value, Missing, Single, Structure as StructureValue}
+use Rattle.model_runs.specs.Memory.{Scalar, Number, Null, Value, Missing, Single, StructureValue}
 use Rattle.model_runs.specs.Loads.{value_at}
-use Rattle.model_runs.specs.Applied.{applied, is_true, truth_value, converted, ToInteger, ToPointer}
+use Rattle.model_runs.specs.Applied.{applied, converted, ToInteger, ToPointer}
 use Rattle.model_runs.specs.Accesses.{load_from, store_to}
-use Rattle.model_runs.specs.Run.{Act, ◌▷◌, just, ends, given, Undefined}
+use Rattle.model_runs.specs.Run.{Act, ◌▷◌, just, ends, unless_undefined, Undefined}
 use Rattle.model_core.specs.CoreTypes.{object_type, is_pointer, basic_of, shape_of, step_size}
 use Rattle.model_core.specs.SourceMarks.{at_mark, lvalue_mark}
 use Rattle.model_runs.specs.Operands.{Location, further}
@@ -63,7 +60,7 @@ store_object f object location value =
 
 -- a binary operator on operands of these types, in the type of the left one
 abbrev pub operated_on : Frame → BinOp → Mark → (left right : CType) → Scalar → Scalar → Act Scalar
-operated_on f op mark left right a b = given (at_mark mark) (applied op (basic_of (form_of_type left)) (step_size f.core.structs left right) a b)
+operated_on f op mark left right a b = unless_undefined (at_mark mark) (applied op (basic_of (form_of_type left)) (step_size f.core.structs left right) a b)
 
 abbrev pub step_op : StepOp → BinOp
 step_op Increment = Add
@@ -76,7 +73,7 @@ by_side Postfix old new = old
 -- the values of a structure's member
 abbrev pub member_value : Frame → Mark → (structure member : CType) → (rank : ℕ) → Value → Act Value
 member_value f mark structure member rank (StructureValue cells) =
-    given (at_mark mark) (value_at (shape_of f.core.structs member) cells (unwrap_or (member_offset f.core.structs structure rank) 0))
+    unless_undefined (at_mark mark) (value_at (shape_of f.core.structs member) cells (unwrap_or (member_offset f.core.structs structure rank) 0))
 member_value f mark structure member rank value = ends (Undefined Kind (at_mark mark))
 
 -- the value of a compound assignment or of `++` and `--`: the old value, converted to the type in which it

@@ -8,7 +8,7 @@ use Rattle.model_types.specs.Types.{CType, form_of_type}
 use Rattle.model_runs.specs.Memory.{Numbered, Block, Scalar, Number, Address, Code, Value, Missing, Single}
 use Rattle.model_runs.specs.Applied.{applied_unary, is_true}
 use Rattle.model_runs.specs.Accesses.{store_to}
-use Rattle.model_runs.specs.Run.{Act, ◌▷◌, just, given, choose, used, scalar_of}
+use Rattle.model_runs.specs.Run.{Act, ◌▷◌, just, unless_undefined, choose, used, scalar_of}
 use Rattle.model_core.specs.CoreTypes.{type_of, called_type, object_type, types_of, int_type, basic_of, shape_of, element_size, pointee, is_void}
 use Rattle.model_runs.specs.Operands.{Location, pointed, further, counted, logic, single}
 use Rattle.model_runs.specs.SourceFrame.{Frame, block_of}
@@ -50,7 +50,7 @@ abbrev mutual
   evaluate f (unit.Address origin object mark) = locate f object ▷ (λ l. single (Address l.block l.offset))
   evaluate f (unit.FunctionRef id type by_name mark) = single (Code (Numbered id))
   evaluate f (unit.Unary op a mark) =
-      operand a (evaluate f a) ▷ (λ x. given (at_mark mark) (applied_unary op (basic_of (form_of_type (type_of a))) x) ▷ single)
+      operand a (evaluate f a) ▷ (λ x. unless_undefined (at_mark mark) (applied_unary op (basic_of (form_of_type (type_of a))) x) ▷ single)
   evaluate f (unit.Binary op a b mark) =
       operand a (evaluate f a) ▷ (λ x. operand b (evaluate f b) ▷ (λ y. operated_on f op mark (type_of a) (type_of b) x y ▷ single))
   evaluate f (unit.Logic op a b mark) = operand a (evaluate f a) ▷ (λ x. logic op (is_true x) (operand b (evaluate f b)) ▷ single)
@@ -74,7 +74,7 @@ abbrev mutual
       ▷ (λ l. load_object f object l ▷ scalar_of (at_mark (lvalue_mark object))
       ▷ (λ old. stepped f (step_op op) mark type (object_type object) int_type old (Number (pos 1))
       ▷ (λ new. store_object f object l (Single new) ▷ (λ v. just (by_side side (Single old) v)))))
-  evaluate f (unit.Member structure rank type name mark) =
+  evaluate f (unit.MemberValue structure rank type name mark) =
       needed structure (evaluate f structure) ▷ member_value f mark (type_of structure) type rank
   evaluate f (unit.Comma a b mark) = evaluate f a ▷ (λ v. evaluate f b)
 
@@ -89,7 +89,7 @@ abbrev mutual
       locate f structure ▷ (λ l. just (member_at f.core.structs (object_type structure) rank l))
   locate f (unit.Arrow pointer rank type name mark) =
       followed pointer mark (evaluate f pointer) ▷ (λ l. just (member_at f.core.structs (pointee (form_of_type (type_of pointer))) rank l))
-  locate f (unit.Literal id type values mark) =
+  locate f (unit.Literal origin id type values mark) =
       initialise f (block_of f.core f.call id) values ▷ (λ u. just (record { block = block_of f.core f.call id; offset = pos 0 }))
 
   -- the values of arguments

@@ -2,7 +2,7 @@
 use Rattle.std.specs.Prelude.{ℕ, ◌+◌, ◌-◌, nat_lt, ℤ, List, [], ◌∷◌, ◌++◌, map, Result, Ok, Err, if◌then◌else◌, unsigned_abs}
 use Rattle.model_types.specs.declared.outcomes.Cause.{Cause}
 use Rattle.model_types.specs.declared.outcomes.Cause.TheVariants.{ReadOnly}
-use Rattle.model_runs.specs.Memory.{Block, Content, Holds, Zeroes, Cell, Value, Missing, Single, Structure, Contents, Memory, contents_of, with_block}
+use Rattle.model_runs.specs.Memory.{Block, Content, Holds, Zeroes, Cell, Value, Missing, Single, StructureValue, Contents, Memory, contents_of, with_block}
 use Rattle.model_types.specs.Shapes.{Shape, shape_size}
 use Rattle.model_runs.specs.Loads.{overlaps, reached}
 
@@ -28,7 +28,7 @@ moved_by offset cell = record cell { offset = offset + cell.offset }
 abbrev pub cells_of : (offset size : ℕ) → Value → List Cell
 cells_of offset size Missing = []
 cells_of offset size (Single scalar) = record { offset = offset; size = size; content = Holds scalar } ∷ []
-cells_of offset size (Structure cells) = map (moved_by offset) cells
+cells_of offset size (StructureValue cells) = map (moved_by offset) cells
 
 -- contents in which these bytes hold a value
 abbrev pub with_value : Contents → (offset size : ℕ) → Value → Contents

@@ -21,7 +21,7 @@ pub expr_falls : (f : OutExprForm) → max (deep-OutExprForm f) 0 ≤ expr_nodes
 expr_falls (e.Name name) = omega arith
 expr_falls (e.Constant number suffix) = omega arith
 expr_falls (e.Index left right) = omega arith
-expr_falls (e.Member structure name) = omega arith
+expr_falls (e.Dot structure name) = omega arith
 expr_falls (e.Arrow pointer name) = omega arith
 expr_falls (e.Call function arguments) = omega (arith, most_exprs arguments)
 expr_falls (e.Unary op operand) = omega arith

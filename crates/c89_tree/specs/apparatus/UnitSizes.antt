@@ -20,7 +20,7 @@ abbrev mutual
   expr_nodes (m.Name name) = 1
   expr_nodes (m.Constant number suffix) = 1
   expr_nodes (m.Index left right) = 1 + expr_nodes left + expr_nodes right
-  expr_nodes (m.Member structure name) = 1 + expr_nodes structure
+  expr_nodes (m.Dot structure name) = 1 + expr_nodes structure
   expr_nodes (m.Arrow pointer name) = 1 + expr_nodes pointer
   expr_nodes (m.Call function arguments) = 1 + expr_nodes function + exprs_nodes arguments
   expr_nodes (m.Unary op operand) = 1 + expr_nodes operand

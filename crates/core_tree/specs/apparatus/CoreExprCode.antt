@@ -33,7 +33,7 @@ abbrev mutual
   put_expr (m.Call function arguments mark) = gcons (gnum 9) (gcons (put_expr function) (gcons (put_exprs arguments) (put_mark mark)))
   put_expr (m.Assign assignment object value mark) = gcons (gnum 10) (gcons (put_assignment assignment) (gcons (put_lvalue object) (gcons (put_expr value) (put_mark mark))))
   put_expr (m.Step op side type object mark) = gcons (gnum 11) (gcons (put_step op) (gcons (put_side side) (gcons (put_type type) (gcons (put_lvalue object) (put_mark mark)))))
-  put_expr (m.Member structure rank type name mark) = gcons (gnum 12) (gcons (put_expr structure) (gcons (put_nat rank) (gcons (put_type type) (gcons (put_place name) (put_mark mark)))))
+  put_expr (m.MemberValue structure rank type name mark) = gcons (gnum 12) (gcons (put_expr structure) (gcons (put_nat rank) (gcons (put_type type) (gcons (put_place name) (put_mark mark)))))
   put_expr (m.Comma first second mark) = gcons (gnum 13) (gcons (put_expr first) (gcons (put_expr second) (put_mark mark)))
 
   pub put_lvalue : m.Lvalue → Gv
@@ -42,7 +42,8 @@ abbrev mutual
   put_lvalue (m.Index is_second first second mark) = gcons (gnum 2) (gcons (put_bool is_second) (gcons (put_expr first) (gcons (put_expr second) (put_mark mark))))
   put_lvalue (m.Field structure rank type name mark) = gcons (gnum 3) (gcons (put_lvalue structure) (gcons (put_nat rank) (gcons (put_type type) (gcons (put_place name) (put_mark mark)))))
   put_lvalue (m.Arrow pointer rank type name mark) = gcons (gnum 4) (gcons (put_expr pointer) (gcons (put_nat rank) (gcons (put_type type) (gcons (put_place name) (put_mark mark)))))
-  put_lvalue (m.Literal id type values mark) = gcons (gnum 5) (gcons (put_nat id) (gcons (put_type type) (gcons (put_initials values) (put_mark mark))))
+  put_lvalue (m.Literal origin id type values mark) =
+      gcons (gnum 5) (gcons (put_origin origin) (gcons (put_nat id) (gcons (put_type type) (gcons (put_initials values) (put_mark mark)))))
 
   pub put_exprs : m.Exprs → Gv
   put_exprs m.no_exprs = gnil
@@ -66,7 +67,7 @@ abbrev mutual
   get_expr (gcons (gnum (suc (suc (suc (suc (suc (suc (suc (suc (suc zero)))))))))) (gcons a (gcons b c))) = m.Call (get_expr a) (get_exprs b) (get_mark c)
   get_expr (gcons (gnum (suc (suc (suc (suc (suc (suc (suc (suc (suc (suc zero))))))))))) (gcons a (gcons b (gcons c d)))) = m.Assign (get_assignment a) (get_lvalue b) (get_expr c) (get_mark d)
   get_expr (gcons (gnum (suc (suc (suc (suc (suc (suc (suc (suc (suc (suc (suc zero)))))))))))) (gcons a (gcons b (gcons c (gcons d e))))) = m.Step (get_step a) (get_side b) (get_type c) (get_lvalue d) (get_mark e)
-  get_expr (gcons (gnum (suc (suc (suc (suc (suc (suc (suc (suc (suc (suc (suc (suc zero))))))))))))) (gcons a (gcons b (gcons c (gcons d e))))) = m.Member (get_expr a) (get_nat b) (get_type c) (get_place d) (get_mark e)
+  get_expr (gcons (gnum (suc (suc (suc (suc (suc (suc (suc (suc (suc (suc (suc (suc zero))))))))))))) (gcons a (gcons b (gcons c (gcons d e))))) = m.MemberValue (get_expr a) (get_nat b) (get_type c) (get_place d) (get_mark e)
   get_expr (gcons (gnum (suc (suc (suc (suc (suc (suc (suc (suc (suc (suc (suc (suc (suc zero)))))))))))))) (gcons a (gcons b c))) = m.Comma (get_expr a) (get_expr b) (get_mark c)
   get_expr _ = m.Constant (get_int gnil) (get_type gnil) (get_mark gnil)
 
@@ -76,7 +77,8 @@ abbrev mutual
   get_lvalue (gcons (gnum (suc (suc zero))) (gcons a (gcons b (gcons c d)))) = m.Index (get_bool a) (get_expr b) (get_expr c) (get_mark d)
   get_lvalue (gcons (gnum (suc (suc (suc zero)))) (gcons a (gcons b (gcons c (gcons d e))))) = m.Field (get_lvalue a) (get_nat b) (get_type c) (get_place d) (get_mark e)
   get_lvalue (gcons (gnum (suc (suc (suc (suc zero))))) (gcons a (gcons b (gcons c (gcons d e))))) = m.Arrow (get_expr a) (get_nat b) (get_type c) (get_place d) (get_mark e)
-  get_lvalue (gcons (gnum (suc (suc (suc (suc (suc zero)))))) (gcons a (gcons b (gcons c d)))) = m.Literal (get_nat a) (get_type b) (get_initials c) (get_mark d)
+  get_lvalue (gcons (gnum (suc (suc (suc (suc (suc zero)))))) (gcons a (gcons b (gcons c (gcons d e))))) =
+      m.Literal (get_origin a) (get_nat b) (get_type c) (get_initials d) (get_mark e)
   get_lvalue _ = m.Object (get_nat gnil) (get_type gnil) (get_mark gnil)
 
   pub get_exprs : Gv → m.Exprs
@@ -101,7 +103,7 @@ mutual
   expr_back (m.Call function arguments mark) = λ i. m.Call (expr_back function i) (exprs_back arguments i) mark
   expr_back (m.Assign assignment object value mark) = λ i. m.Assign (assignment_back assignment i) (lvalue_back object i) (expr_back value i) mark
   expr_back (m.Step op side type object mark) = λ i. m.Step (step_back op i) (side_back side i) (type_back type i) (lvalue_back object i) mark
-  expr_back (m.Member structure rank type name mark) = λ i. m.Member (expr_back structure i) rank (type_back type i) name mark
+  expr_back (m.MemberValue structure rank type name mark) = λ i. m.MemberValue (expr_back structure i) rank (type_back type i) name mark
   expr_back (m.Comma first second mark) = λ i. m.Comma (expr_back first i) (expr_back second i) mark
 
   pub lvalue_back : (l : m.Lvalue) → get_lvalue (put_lvalue l) ≡ l
@@ -110,7 +112,7 @@ mutual
   lvalue_back (m.Index is_second first second mark) = λ i. m.Index (bool_back is_second i) (expr_back first i) (expr_back second i) mark
   lvalue_back (m.Field structure rank type name mark) = λ i. m.Field (lvalue_back structure i) rank (type_back type i) name mark
   lvalue_back (m.Arrow pointer rank type name mark) = λ i. m.Arrow (expr_back pointer i) rank (type_back type i) name mark
-  lvalue_back (m.Literal id type values mark) = λ i. m.Literal id (type_back type i) (initials_back values i) mark
+  lvalue_back (m.Literal origin id type values mark) = λ i. m.Literal (origin_back origin i) id (type_back type i) (initials_back values i) mark
 
   pub exprs_back : (x : m.Exprs) → get_exprs (put_exprs x) ≡ x
   exprs_back m.no_exprs = refl

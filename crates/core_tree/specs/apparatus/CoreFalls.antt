@@ -34,7 +34,7 @@ expr_falls (e.Convert origin type operand mark) = omega arith
 expr_falls (e.Call function arguments mark) = omega (arith, most_exprs arguments)
 expr_falls (e.Assign assignment object value mark) = omega arith
 expr_falls (e.Step op side type object mark) = omega arith
-expr_falls (e.Member structure rank type name mark) = omega arith
+expr_falls (e.MemberValue structure rank type name mark) = omega arith
 expr_falls (e.Comma first second mark) = omega arith
 
 pub lvalue_falls : (f : CoreLvalueForm) → max (deep-CoreLvalueForm f) 0 ≤ lvalue_nodes (lvalue_of f)
@@ -43,7 +43,7 @@ lvalue_falls (l.Deref pointer mark) = omega arith
 lvalue_falls (l.Index is_second first second mark) = omega arith
 lvalue_falls (l.Field structure rank type name mark) = omega arith
 lvalue_falls (l.Arrow pointer rank type name mark) = omega arith
-lvalue_falls (l.Literal id type values mark) = omega (arith, most_initials values)
+lvalue_falls (l.Literal origin id type values mark) = omega (arith, most_initials values)
 
 pub initial_falls : (f : CoreInitialForm) → max (deep-CoreInitialForm f) 0 ≤ initial_nodes (initial_of f)
 initial_falls f = omega arith

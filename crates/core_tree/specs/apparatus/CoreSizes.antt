@@ -17,7 +17,7 @@ abbrev mutual
   expr_nodes (m.Call function arguments mark) = 1 + expr_nodes function + exprs_nodes arguments
   expr_nodes (m.Assign assignment object value mark) = 1 + lvalue_nodes object + expr_nodes value
   expr_nodes (m.Step op side type object mark) = 1 + lvalue_nodes object
-  expr_nodes (m.Member structure rank type name mark) = 1 + expr_nodes structure
+  expr_nodes (m.MemberValue structure rank type name mark) = 1 + expr_nodes structure
   expr_nodes (m.Comma first second mark) = 1 + expr_nodes first + expr_nodes second
 
   pub lvalue_nodes : m.Lvalue → ℕ
@@ -26,7 +26,7 @@ abbrev mutual
   lvalue_nodes (m.Index is_second first second mark) = 1 + expr_nodes first + expr_nodes second
   lvalue_nodes (m.Field structure rank type name mark) = 1 + lvalue_nodes structure
   lvalue_nodes (m.Arrow pointer rank type name mark) = 1 + expr_nodes pointer
-  lvalue_nodes (m.Literal id type values mark) = 1 + initials_nodes values
+  lvalue_nodes (m.Literal origin id type values mark) = 1 + initials_nodes values
 
   pub exprs_nodes : m.Exprs → ℕ
   exprs_nodes m.no_exprs = 0
