@@ -8,6 +8,7 @@ use Rattle.model_types.specs.Types.{CType, form_of_type}
 use Rattle.model_types.specs.Structures.{Structure}
 use Rattle.model_types.specs.Layout.{is_complete}
 use Rattle.model_scopes.specs.Scopes.{drawn, is_outermost}
+use Rattle.model_types.specs.declared.marks.Origin.TheVariants.{Written}
 use Rattle.model_core.specs.Core as unit
 use Rattle.model_checking.specs.State.{Use, Evaluated, Unevaluated, Made, State, Answer, gives, then_do}
 use Rattle.model_checking.specs.Meanings.{Meaning, a_place}
@@ -41,7 +42,7 @@ abbrev pub object_made : (is_static : Bool) → Use → Mark → Initialized →
 object_made true usage mark o s =
     gives (a_place (unit.Object s.scopes.ids o.type mark) None) (with_made (made_object usage s.scopes.ids mark o.type (Some o.values)) s)
 object_made false usage mark o s =
-    gives (a_place (unit.Literal s.scopes.ids o.type o.values mark) None)
+    gives (a_place (unit.Literal Written s.scopes.ids o.type o.values mark) None)
     (with_automatic usage s.scopes.ids (with_made (made_object usage s.scopes.ids mark o.type None) s))
 
 abbrev pub is_at_file_scope : State → Bool

@@ -51,7 +51,7 @@ abbrev mutual
       is_fixed is_automatic a && is_built_of_constants b || is_built_of_constants a && is_fixed is_automatic b
   is_fixed_place is_automatic (unit.Field structure rank type name mark) = is_fixed_place is_automatic structure
   is_fixed_place is_automatic (unit.Arrow pointer rank type name mark) = is_fixed is_automatic pointer
-  is_fixed_place is_automatic (unit.Literal id type values mark) = false
+  is_fixed_place is_automatic (unit.Literal origin id type values mark) = false
 
 -- C23: an integer constant expression, a null pointer, or such an address; C24: it is undefined
 abbrev pub static_fault : (is_automatic : ℕ → Bool) → (first : Place) → unit.Expr → Option Fault

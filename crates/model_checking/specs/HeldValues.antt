@@ -1,20 +1,19 @@
 -- The object of temporary lifetime that holds the value of a structure whose array member is asked for, as in
 -- `f().a[0]` (ISO/IEC 9899:2024, 6.2.4).
 use Rattle.std.specs.Prelude.{ℕ, Bool, true, false, [], ◌∷◌, ◌++◌, None}
-use Rattle.model_types.specs.Types.{form_of_type}
 use Rattle.model_core.specs.CoreTypes.{type_of}
-use Rattle.model_core.specs.TypedParts.{is_struct}
 use Rattle.model_core.specs.SourceMarks.{expr_mark}
+use Rattle.model_types.specs.declared.marks.Origin.TheVariants.{Implied}
 use Rattle.model_core.specs.Core as unit
 use Rattle.model_checking.specs.State.{Use, State, Made}
 use Rattle.model_checking.specs.Literals.{is_evaluated, with_made}
 
 abbrev pub held : (id : ℕ) → unit.Expr → unit.Lvalue
-held id e = unit.Literal id (type_of e) (unit.more_initials [] 0 (type_of e) e unit.no_initials) (expr_mark e)
+held id e = unit.Literal Implied id (type_of e) (unit.more_initials [] 0 (type_of e) e unit.no_initials) (expr_mark e)
 
--- such an object or a member of one is no lvalue: of the literals of the source none has a value for a whole structure
+-- such an object or a member of one is no lvalue
 abbrev pub is_held : unit.Lvalue → Bool
-is_held (unit.Literal id type (unit.more_initials [] offset part value others) mark) = is_struct (form_of_type type)
+is_held (unit.Literal Implied id type values mark) = true
 is_held (unit.Field structure rank type name mark) = is_held structure
 is_held _ = false
 

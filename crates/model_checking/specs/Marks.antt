@@ -53,7 +53,7 @@ expr_in_parentheses p (unit.Convert origin type e mark) = unit.Convert origin ty
 expr_in_parentheses p (unit.Call function arguments mark) = unit.Call function arguments (from_outside p mark)
 expr_in_parentheses p (unit.Assign assignment object e mark) = unit.Assign assignment object e (from_outside p mark)
 expr_in_parentheses p (unit.Step op side type object mark) = unit.Step op side type object (from_outside p mark)
-expr_in_parentheses p (unit.Member structure rank type name mark) = unit.Member structure rank type name (from_outside p mark)
+expr_in_parentheses p (unit.MemberValue structure rank type name mark) = unit.MemberValue structure rank type name (from_outside p mark)
 expr_in_parentheses p (unit.Comma a b mark) = unit.Comma a b (from_outside p mark)
 
 abbrev pub lvalue_in_parentheses : (outer : Place) → unit.Lvalue → unit.Lvalue
@@ -62,7 +62,7 @@ lvalue_in_parentheses p (unit.Deref pointer mark) = unit.Deref pointer (from_out
 lvalue_in_parentheses p (unit.Index is_second a b mark) = unit.Index is_second a b (from_outside p mark)
 lvalue_in_parentheses p (unit.Field structure rank type name mark) = unit.Field structure rank type name (from_outside p mark)
 lvalue_in_parentheses p (unit.Arrow pointer rank type name mark) = unit.Arrow pointer rank type name (from_outside p mark)
-lvalue_in_parentheses p (unit.Literal id type values mark) = unit.Literal id type values (from_outside p mark)
+lvalue_in_parentheses p (unit.Literal origin id type values mark) = unit.Literal origin id type values (from_outside p mark)
 
 -- the `*` that makes a function of a pointer leaves nothing that stands anywhere
 abbrev pub in_parentheses : (outer : Place) → Meaning → Meaning

@@ -45,7 +45,7 @@ field object name mark m =
 abbrev pub value_member : Use → unit.Expr → Name → Mark → Ranked → State → Answer Meaning
 value_member usage e name mark m s =
     if is_array (form_of_type m.type) then gives (field (held s.scopes.ids e) name mark m) (with_held usage e s)
-    else gives (a_value (unit.Member e m.rank m.type name.place mark)) s
+    else gives (a_value (unit.MemberValue e m.rank m.type name.place mark)) s
 
 abbrev pub member_as : Use → Meaning → Name → Mark → Option Ranked → State → Answer Meaning
 member_as usage (a_place object known) name mark (Some m) s = gives (field object name mark m) s
