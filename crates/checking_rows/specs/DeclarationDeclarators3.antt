@@ -53,3 +53,23 @@ second_declarator = (syntax.ExternalDeclaration (syntax.SimpleDeclaration (specs
 -- void f(void) { int g(void); { static int h(void); } }
 abbrev pub word_before_declarator : List syntax.External
 word_before_declarator = ((syntax.FunctionDefinition (specs (syntax.TypeSpec type.Void (at 1 0) ∷ [])) (syntax.Named [] (name (codes "f") (at 6 1)) (suffixes (syntax.FunctionSuffix (parameters (syntax.parameter (specs (syntax.TypeSpec type.Void (at 8 3) ∷ [])) (syntax.Unnamed [] (suffixes [])) (at 8 3) ∷ [])) false (at 7 2) ∷ []))) (syntax.block (block_items (syntax.DeclarationItem (syntax.SimpleDeclaration (specs (syntax.TypeSpec type.Int (at 16 6) ∷ [])) (declared (syntax.init_declarator (syntax.Named [] (name (codes "g") (at 20 7)) (suffixes (syntax.FunctionSuffix (parameters (syntax.parameter (specs (syntax.TypeSpec type.Void (at 22 9) ∷ [])) (syntax.Unnamed [] (suffixes [])) (at 22 9) ∷ [])) false (at 21 8) ∷ []))) syntax.no_initializer ∷ []))) ∷ syntax.StatementItem (syntax.CompoundStatement (syntax.block (block_items (syntax.DeclarationItem (syntax.SimpleDeclaration (specs (syntax.StorageSpec storage.Static (at 31 13) ∷ syntax.TypeSpec type.Int (at 38 14) ∷ [])) (declared (syntax.init_declarator (syntax.Named [] (name (codes "h") (at 42 15)) (suffixes (syntax.FunctionSuffix (parameters (syntax.parameter (specs (syntax.TypeSpec type.Void (at 44 17) ∷ [])) (syntax.Unnamed [] (suffixes [])) (at 44 17) ∷ [])) false (at 43 16) ∷ []))) syntax.no_initializer ∷ []))) ∷ [])) (span (at 29 12) (at 51 20))) (span (at 29 12) (at 51 20))) ∷ [])) (span (at 14 5) (at 53 21)))) ∷ [])
+
+-- int (*p)(const void);
+abbrev pub void_parameter_of_pointed_function : List syntax.External
+void_parameter_of_pointed_function = (syntax.ExternalDeclaration (syntax.SimpleDeclaration (specs (syntax.TypeSpec type.Int (at 1 0) ∷ [])) (declared (syntax.init_declarator (syntax.Grouped [] (syntax.Named (pointer (at 6 2) [] ∷ []) (name (codes "p") (at 7 3)) (suffixes [])) (suffixes (syntax.FunctionSuffix (parameters (syntax.parameter (specs (syntax.QualifierSpec (qualifier qual.Const (at 10 6)) ∷ syntax.TypeSpec type.Void (at 16 7) ∷ [])) (syntax.Unnamed [] (suffixes [])) (at 10 6) ∷ [])) false (at 9 5) ∷ [])) (at 5 1)) syntax.no_initializer ∷ []))) ∷ [])
+
+-- int f(int g(const void));
+abbrev pub void_parameter_of_parameter : List syntax.External
+void_parameter_of_parameter = (syntax.ExternalDeclaration (syntax.SimpleDeclaration (specs (syntax.TypeSpec type.Int (at 1 0) ∷ [])) (declared (syntax.init_declarator (syntax.Named [] (name (codes "f") (at 5 1)) (suffixes (syntax.FunctionSuffix (parameters (syntax.parameter (specs (syntax.TypeSpec type.Int (at 7 3) ∷ [])) (syntax.Named [] (name (codes "g") (at 11 4)) (suffixes (syntax.FunctionSuffix (parameters (syntax.parameter (specs (syntax.QualifierSpec (qualifier qual.Const (at 13 6)) ∷ syntax.TypeSpec type.Void (at 19 7) ∷ [])) (syntax.Unnamed [] (suffixes [])) (at 13 6) ∷ [])) false (at 12 5) ∷ []))) (at 7 3) ∷ [])) false (at 6 2) ∷ []))) syntax.no_initializer ∷ []))) ∷ [])
+
+-- typedef int F(int a, void b);
+abbrev pub void_parameter_of_typedef : List syntax.External
+void_parameter_of_typedef = (syntax.ExternalDeclaration (syntax.SimpleDeclaration (specs (syntax.StorageSpec storage.Typedef (at 1 0) ∷ syntax.TypeSpec type.Int (at 9 1) ∷ [])) (declared (syntax.init_declarator (syntax.Named [] (name (codes "F") (at 13 2)) (suffixes (syntax.FunctionSuffix (parameters (syntax.parameter (specs (syntax.TypeSpec type.Int (at 15 4) ∷ [])) (syntax.Named [] (name (codes "a") (at 19 5)) (suffixes [])) (at 15 4) ∷ syntax.parameter (specs (syntax.TypeSpec type.Void (at 22 7) ∷ [])) (syntax.Named [] (name (codes "b") (at 27 8)) (suffixes [])) (at 22 7) ∷ [])) false (at 14 3) ∷ []))) syntax.no_initializer ∷ []))) ∷ [])
+
+-- int (*f(void))(const void);
+abbrev pub void_parameter_of_result : List syntax.External
+void_parameter_of_result = (syntax.ExternalDeclaration (syntax.SimpleDeclaration (specs (syntax.TypeSpec type.Int (at 1 0) ∷ [])) (declared (syntax.init_declarator (syntax.Grouped [] (syntax.Named (pointer (at 6 2) [] ∷ []) (name (codes "f") (at 7 3)) (suffixes (syntax.FunctionSuffix (parameters (syntax.parameter (specs (syntax.TypeSpec type.Void (at 9 5) ∷ [])) (syntax.Unnamed [] (suffixes [])) (at 9 5) ∷ [])) false (at 8 4) ∷ []))) (suffixes (syntax.FunctionSuffix (parameters (syntax.parameter (specs (syntax.QualifierSpec (qualifier qual.Const (at 16 9)) ∷ syntax.TypeSpec type.Void (at 22 10) ∷ [])) (syntax.Unnamed [] (suffixes [])) (at 16 9) ∷ [])) false (at 15 8) ∷ [])) (at 5 1)) syntax.no_initializer ∷ []))) ∷ [])
+
+-- int (*f(void))(const void) { return 0; }
+abbrev pub void_parameter_of_result_of_definition : List syntax.External
+void_parameter_of_result_of_definition = ((syntax.FunctionDefinition (specs (syntax.TypeSpec type.Int (at 1 0) ∷ [])) (syntax.Grouped [] (syntax.Named (pointer (at 6 2) [] ∷ []) (name (codes "f") (at 7 3)) (suffixes (syntax.FunctionSuffix (parameters (syntax.parameter (specs (syntax.TypeSpec type.Void (at 9 5) ∷ [])) (syntax.Unnamed [] (suffixes [])) (at 9 5) ∷ [])) false (at 8 4) ∷ []))) (suffixes (syntax.FunctionSuffix (parameters (syntax.parameter (specs (syntax.QualifierSpec (qualifier qual.Const (at 16 9)) ∷ syntax.TypeSpec type.Void (at 22 10) ∷ [])) (syntax.Unnamed [] (suffixes [])) (at 16 9) ∷ [])) false (at 15 8) ∷ [])) (at 5 1)) (syntax.block (block_items (syntax.StatementItem (syntax.Return (syntax.an_expr (syntax.Constant (pos 0) basic.Int (at 37 14))) (at 30 13) (span (at 30 13) (at 38 15))) ∷ [])) (span (at 28 12) (at 40 16)))) ∷ [])

@@ -2,6 +2,7 @@
 use Rattle.std.specs.Prelude.{List, [], ◌∷◌, None, false, pos, codes}
 use Rattle.model_grammar.specs.SyntaxForms as syntax
 use Rattle.model_types.specs.declared.numbers.Basic.TheVariants as basic
+use Rattle.model_types.specs.declared.numbers.BinOp.TheVariants as op
 use Rattle.model_grammar.specs.declared.syntax.StorageWord.TheVariants as storage
 use Rattle.model_grammar.specs.declared.syntax.TypeWord.TheVariants as type
 use Rattle.model_grammar.specs.declared.syntax.QualifierWord.TheVariants as qual
@@ -70,3 +71,19 @@ first_declarator_first = (syntax.ExternalDeclaration (syntax.SimpleDeclaration (
 -- void f(void) { int x; int (* _Owner x)(void); }
 abbrev pub owner_behind_star_before_name : List syntax.External
 owner_behind_star_before_name = ((syntax.FunctionDefinition (specs (syntax.TypeSpec type.Void (at 1 0) ∷ [])) (syntax.Named [] (name (codes "f") (at 6 1)) (suffixes (syntax.FunctionSuffix (parameters (syntax.parameter (specs (syntax.TypeSpec type.Void (at 8 3) ∷ [])) (syntax.Unnamed [] (suffixes [])) (at 8 3) ∷ [])) false (at 7 2) ∷ []))) (syntax.block (block_items (syntax.DeclarationItem (syntax.SimpleDeclaration (specs (syntax.TypeSpec type.Int (at 16 6) ∷ [])) (declared (syntax.init_declarator (syntax.Named [] (name (codes "x") (at 20 7)) (suffixes [])) syntax.no_initializer ∷ []))) ∷ syntax.DeclarationItem (syntax.SimpleDeclaration (specs (syntax.TypeSpec type.Int (at 23 9) ∷ [])) (declared (syntax.init_declarator (syntax.Grouped [] (syntax.Named (pointer (at 28 11) ((qualifier qual.Owner (at 30 12)) ∷ []) ∷ []) (name (codes "x") (at 37 13)) (suffixes [])) (suffixes (syntax.FunctionSuffix (parameters (syntax.parameter (specs (syntax.TypeSpec type.Void (at 40 16) ∷ [])) (syntax.Unnamed [] (suffixes [])) (at 40 16) ∷ [])) false (at 39 15) ∷ [])) (at 27 10)) syntax.no_initializer ∷ []))) ∷ [])) (span (at 14 5) (at 47 19)))) ∷ [])
+
+-- static auto p = (int (int n)) { return n ? p(n - 1) : 0; }; int f(void) { return p(3); }
+abbrev pub literal_names_its_object : List syntax.External
+literal_names_its_object = (syntax.ExternalDeclaration (syntax.SimpleDeclaration (specs (syntax.StorageSpec storage.Static (at 1 0) ∷ syntax.StorageSpec storage.Auto (at 8 1) ∷ [])) (declared (syntax.init_declarator (syntax.Named [] (name (codes "p") (at 13 2)) (suffixes [])) (syntax.an_initializer (syntax.Single (syntax.FunctionLiteral (syntax.type_name (specs (syntax.TypeSpec type.Int (at 18 5) ∷ [])) (syntax.Unnamed [] (suffixes (syntax.FunctionSuffix (parameters (syntax.parameter (specs (syntax.TypeSpec type.Int (at 23 7) ∷ [])) (syntax.Named [] (name (codes "n") (at 27 8)) (suffixes [])) (at 23 7) ∷ [])) false (at 22 6) ∷ [])))) (syntax.block (block_items (syntax.StatementItem (syntax.Return (syntax.an_expr (syntax.Conditional (syntax.Identifier (name (codes "n") (at 40 13))) (syntax.Call (syntax.Identifier (name (codes "p") (at 44 15))) (syntax.exprs ((syntax.Binary op.Sub (syntax.Identifier (name (codes "n") (at 46 17))) (syntax.Constant (pos 1) basic.Int (at 50 19)) (at 48 18)) ∷ [])) (at 45 16)) (syntax.Constant (pos 0) basic.Int (at 55 22)) (at 42 14))) (at 33 12) (span (at 33 12) (at 56 23))) ∷ [])) (span (at 31 11) (at 58 24))) (at 17 4)))) ∷ []))) ∷ (syntax.FunctionDefinition (specs (syntax.TypeSpec type.Int (at 61 26) ∷ [])) (syntax.Named [] (name (codes "f") (at 65 27)) (suffixes (syntax.FunctionSuffix (parameters (syntax.parameter (specs (syntax.TypeSpec type.Void (at 67 29) ∷ [])) (syntax.Unnamed [] (suffixes [])) (at 67 29) ∷ [])) false (at 66 28) ∷ []))) (syntax.block (block_items (syntax.StatementItem (syntax.Return (syntax.an_expr (syntax.Call (syntax.Identifier (name (codes "p") (at 82 33))) (syntax.exprs ((syntax.Constant (pos 3) basic.Int (at 84 35)) ∷ [])) (at 83 34))) (at 75 32) (span (at 75 32) (at 86 37))) ∷ [])) (span (at 73 31) (at 88 38)))) ∷ [])
+
+-- void f(void) { auto p = (int (int n)) { return p(n); }; }
+abbrev pub literal_names_its_automatic_object : List syntax.External
+literal_names_its_automatic_object = ((syntax.FunctionDefinition (specs (syntax.TypeSpec type.Void (at 1 0) ∷ [])) (syntax.Named [] (name (codes "f") (at 6 1)) (suffixes (syntax.FunctionSuffix (parameters (syntax.parameter (specs (syntax.TypeSpec type.Void (at 8 3) ∷ [])) (syntax.Unnamed [] (suffixes [])) (at 8 3) ∷ [])) false (at 7 2) ∷ []))) (syntax.block (block_items (syntax.DeclarationItem (syntax.SimpleDeclaration (specs (syntax.StorageSpec storage.Auto (at 16 6) ∷ [])) (declared (syntax.init_declarator (syntax.Named [] (name (codes "p") (at 21 7)) (suffixes [])) (syntax.an_initializer (syntax.Single (syntax.FunctionLiteral (syntax.type_name (specs (syntax.TypeSpec type.Int (at 26 10) ∷ [])) (syntax.Unnamed [] (suffixes (syntax.FunctionSuffix (parameters (syntax.parameter (specs (syntax.TypeSpec type.Int (at 31 12) ∷ [])) (syntax.Named [] (name (codes "n") (at 35 13)) (suffixes [])) (at 31 12) ∷ [])) false (at 30 11) ∷ [])))) (syntax.block (block_items (syntax.StatementItem (syntax.Return (syntax.an_expr (syntax.Call (syntax.Identifier (name (codes "p") (at 48 18))) (syntax.exprs ((syntax.Identifier (name (codes "n") (at 50 20))) ∷ [])) (at 49 19))) (at 41 17) (span (at 41 17) (at 52 22))) ∷ [])) (span (at 39 16) (at 54 23))) (at 25 9)))) ∷ []))) ∷ [])) (span (at 14 5) (at 57 25)))) ∷ [])
+
+-- void f(void) { int (*p)(void) = (int (void)) { return a; }, x = b; }
+abbrev pub literal_behind_its_declaration : List syntax.External
+literal_behind_its_declaration = ((syntax.FunctionDefinition (specs (syntax.TypeSpec type.Void (at 1 0) ∷ [])) (syntax.Named [] (name (codes "f") (at 6 1)) (suffixes (syntax.FunctionSuffix (parameters (syntax.parameter (specs (syntax.TypeSpec type.Void (at 8 3) ∷ [])) (syntax.Unnamed [] (suffixes [])) (at 8 3) ∷ [])) false (at 7 2) ∷ []))) (syntax.block (block_items (syntax.DeclarationItem (syntax.SimpleDeclaration (specs (syntax.TypeSpec type.Int (at 16 6) ∷ [])) (declared (syntax.init_declarator (syntax.Grouped [] (syntax.Named (pointer (at 21 8) [] ∷ []) (name (codes "p") (at 22 9)) (suffixes [])) (suffixes (syntax.FunctionSuffix (parameters (syntax.parameter (specs (syntax.TypeSpec type.Void (at 25 12) ∷ [])) (syntax.Unnamed [] (suffixes [])) (at 25 12) ∷ [])) false (at 24 11) ∷ [])) (at 20 7)) (syntax.an_initializer (syntax.Single (syntax.FunctionLiteral (syntax.type_name (specs (syntax.TypeSpec type.Int (at 34 16) ∷ [])) (syntax.Unnamed [] (suffixes (syntax.FunctionSuffix (parameters (syntax.parameter (specs (syntax.TypeSpec type.Void (at 39 18) ∷ [])) (syntax.Unnamed [] (suffixes [])) (at 39 18) ∷ [])) false (at 38 17) ∷ [])))) (syntax.block (block_items (syntax.StatementItem (syntax.Return (syntax.an_expr (syntax.Identifier (name (codes "a") (at 55 23)))) (at 48 22) (span (at 48 22) (at 56 24))) ∷ [])) (span (at 46 21) (at 58 25))) (at 33 15)))) ∷ syntax.init_declarator (syntax.Named [] (name (codes "x") (at 61 27)) (suffixes [])) (syntax.an_initializer (syntax.Single (syntax.Identifier (name (codes "b") (at 65 29))))) ∷ []))) ∷ [])) (span (at 14 5) (at 68 31)))) ∷ [])
+
+-- int x = n, y[m];
+abbrev pub second_type_before_first_initializer : List syntax.External
+second_type_before_first_initializer = (syntax.ExternalDeclaration (syntax.SimpleDeclaration (specs (syntax.TypeSpec type.Int (at 1 0) ∷ [])) (declared (syntax.init_declarator (syntax.Named [] (name (codes "x") (at 5 1)) (suffixes [])) (syntax.an_initializer (syntax.Single (syntax.Identifier (name (codes "n") (at 9 3))))) ∷ syntax.init_declarator (syntax.Named [] (name (codes "y") (at 12 5)) (suffixes (syntax.ArraySuffix (syntax.an_expr (syntax.Identifier (name (codes "m") (at 14 7)))) (at 13 6) ∷ []))) syntax.no_initializer ∷ []))) ∷ [])

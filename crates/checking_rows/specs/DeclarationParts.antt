@@ -1,5 +1,5 @@
 -- What the trees of units of one line are made of, and what the definition of checking answers of such a unit.
-use Rattle.std.specs.Prelude.{ℕ, List, [], ◌∷◌, Result, Ok, Err}
+use Rattle.std.specs.Prelude.{ℕ, if◌then◌else◌, List, [], ◌∷◌, Result, Ok, Err}
 use Rattle.cake_base.specs.declared.places.Place.{Place}
 use Rattle.cake_base.specs.declared.rules.Fault.{Fault}
 use Rattle.model_types.specs.declared.marks.Span.{Span}
@@ -9,6 +9,7 @@ use Rattle.model_grammar.specs.declared.syntax.QualifierWord.{QualifierWord}
 use Rattle.model_grammar.specs.declared.syntax.Pointer.{Pointer}
 use Rattle.model_grammar.specs.SyntaxForms as syntax
 use Rattle.model_core.specs.Core as unit
+use Rattle.model_core.specs.TypedCore.{is_typed_core}
 use Rattle.model_checking.specs.Units.{elab_unit}
 
 -- the token of this rank at a column of the line
@@ -67,13 +68,14 @@ block_items (x ∷ xs) = syntax.more_block_items x (block_items xs)
 
 -- ---- what is answered
 
--- the unit has a core, or breaks a rule of the family C first at a column of its line
+-- the unit has a core, which is typed, or it isn't; or it breaks a rule of the family C first at a column of its line
 pub data Outcome : Type 0 where
   accepted : Outcome
+  untyped : Outcome
   breaks : (rule column : ℕ) → Outcome
 
 abbrev pub outcome_of : Result unit.Core Fault → Outcome
-outcome_of (Ok core) = accepted
+outcome_of (Ok core) = if is_typed_core core then accepted else untyped
 outcome_of (Err fault) = breaks fault.rule.number fault.place.column
 
 abbrev pub outcome : List syntax.External → Outcome

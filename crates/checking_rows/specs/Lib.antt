@@ -20,6 +20,7 @@ pub mod DeclarationNames2
 pub mod DeclarationNames3
 pub mod DeclarationDefinitions1
 pub mod DeclarationDefinitions2
+pub mod DeclarationDefinitions3
 pub mod DeclarationTags1
 pub mod DeclarationTags2
 pub mod DeclarationTags3
@@ -33,3 +34,8 @@ pub mod DeclarationDeclarators1
 pub mod DeclarationDeclarators2
 pub mod DeclarationDeclarators3
 pub mod DeclarationOrder
+pub mod ExpressionUnitsOperators
+pub mod ExpressionUnitsPointers
+pub mod ExpressionUnitsCalls
+pub mod ExpressionUnitsValues
+pub mod ExpressionUnitsAccepted

@@ -16,4 +16,9 @@ pub fn declaration_declarators3()
     ensures typedef_array_twice { outcome rows.typedef_array_twice ≡ accepted }
     ensures second_declarator { outcome rows.second_declarator ≡ breaks 22 8 }
     ensures word_before_declarator { outcome rows.word_before_declarator ≡ breaks 48 31 }
+    ensures void_parameter_of_pointed_function { outcome rows.void_parameter_of_pointed_function ≡ breaks 28 10 }
+    ensures void_parameter_of_parameter { outcome rows.void_parameter_of_parameter ≡ breaks 28 13 }
+    ensures void_parameter_of_typedef { outcome rows.void_parameter_of_typedef ≡ breaks 28 27 }
+    ensures void_parameter_of_result { outcome rows.void_parameter_of_result ≡ breaks 28 16 }
+    ensures void_parameter_of_result_of_definition { outcome rows.void_parameter_of_result_of_definition ≡ breaks 28 16 }
 {}

@@ -21,4 +21,8 @@ pub fn declaration_order()
     ensures specifiers_before_declarators { outcome rows.specifiers_before_declarators ≡ breaks 5 16 }
     ensures first_declarator_first { outcome rows.first_declarator_first ≡ breaks 5 7 }
     ensures owner_behind_star_before_name { outcome rows.owner_behind_star_before_name ≡ breaks 29 30 }
+    ensures literal_names_its_object { outcome rows.literal_names_its_object ≡ accepted }
+    ensures literal_names_its_automatic_object { outcome rows.literal_names_its_automatic_object ≡ breaks 26 48 }
+    ensures literal_behind_its_declaration { outcome rows.literal_behind_its_declaration ≡ breaks 5 55 }
+    ensures second_type_before_first_initializer { outcome rows.second_type_before_first_initializer ≡ breaks 5 9 }
 {}

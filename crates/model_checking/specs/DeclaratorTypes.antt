@@ -6,16 +6,18 @@ use Rattle.cake_base.specs.declared.rules.Fault.{Fault}
 use Rattle.model_types.specs.Types.{CType, Array, Function, types, form_of_type}
 use Rattle.model_types.specs.Structures.{Structure}
 use Rattle.model_types.specs.Layout.{is_complete}
-use Rattle.model_core.specs.CoreTypes.{plain, pointer_to}
+use Rattle.model_core.specs.CoreTypes.{plain, pointer_to, is_void}
 use Rattle.model_core.specs.TypedParts.{is_function}
 use Rattle.model_core.specs.PossibleTypes.{length_fits, is_value_form}
 use Rattle.model_scopes.specs.DeclarationRules.{constraint_at}
 use Rattle.model_grammar.specs.declared.syntax.Name.{Name}
 use Rattle.model_grammar.specs.declared.syntax.Qualifier.{Qualifier}
+use Rattle.model_scopes.specs.Declarations.{Declaration}
 use Rattle.model_grammar.specs.SyntaxForms as syntax
 use Rattle.model_checking.specs.State.{State, Answer, gives, then_do}
 use Rattle.model_checking.specs.Parts.{Specified, Declared}
-use Rattle.model_checking.specs.FaultsBeside.{first_of_faults, fault_if, with_fault}
+use Rattle.model_checking.specs.Faults.{or_fault}
+use Rattle.model_checking.specs.FaultsBeside.{first_of_faults, fault_if, fault_at, with_fault}
 use Rattle.model_checking.specs.Qualified.{qualified, qualifier_fault, meeting_fault}
 use Rattle.model_checking.specs.Derivations.{Derivation, a_pointer, an_array, a_function, a_faulty_array, a_faulty_function, outline, entries_of}
 use Rattle.model_checking.specs.DeclaratorNames.{declarator_name}
@@ -39,10 +41,10 @@ abbrev pub element_fault : List Structure → (first : Place) → (element : CTy
 element_fault structs first element =
     if is_function (form_of_type element) then Some (constraint_at first 28) else fault_if (not (is_complete structs element)) first 22
 
--- C25 besides: an array isn't too large
+-- C25 besides: an array of what may be an element isn't too large
 abbrev pub array_fault : List Structure → (first : Place) → (element : CType) → (length : Option ℕ) → Option Fault
 array_fault structs first element length =
-    first_of_faults (element_fault structs first element) (fault_if (not (length_fits structs element length)) first 25)
+    or_fault (element_fault structs first element) (fault_if (not (length_fits structs element length)) first 25)
 
 -- C28: a function gives no array and no function
 abbrev pub result_fault : (first : Place) → (result : CType) → Option Fault
@@ -77,6 +79,28 @@ derived structs first base [] = typing base None
 derived structs first base (d ∷ ds) =
     beside (derived structs first base ds).fault (step_from structs first d (derived structs first base ds).type)
 
+-- ---- C28: no parameter has type void; at the parameter
+
+abbrev pub first_void : List Declaration → Option Place
+first_void [] = None
+first_void (d ∷ ds) = if is_void d.ty then Some d.place else first_void ds
+
+abbrev pub void_fault : List Declaration → Option Fault
+void_fault entries = fault_at (first_void entries) 28
+
+abbrev pub void_faults : List Derivation → Option Fault
+void_faults [] = None
+void_faults (d ∷ ds) = first_of_faults (void_fault (entries_of (d ∷ []))) (void_faults ds)
+
+-- a declarator's own parameters are asked where it is known whether it is that of a definition
+abbrev pub inner_void_faults : List Derivation → Option Fault
+inner_void_faults [] = None
+inner_void_faults (d ∷ ds) = void_faults ds
+
+-- of one that is that of no definition
+abbrev pub own_parameters_fault : Declared → Option Fault
+own_parameters_fault d = void_fault d.parameters
+
 -- ---- a declarator
 
 -- its steps, or where one of them is faulty, what the tree shows of them
@@ -98,9 +122,12 @@ declared_by given first name type ds = record {
   parameters = entries_of ds;
 }
 
+abbrev pub steps_fault : List Structure → (first : Place) → Option CType → List Derivation → Option Fault
+steps_fault structs first base ds = first_of_faults (derived structs first base ds).fault (inner_void_faults ds)
+
 -- the answer is the steps, and the state the one before them: what is complete there counts
 abbrev pub declarator : Specified → (first : Place) → syntax.Declarator → (before : State) → Answer (List Derivation) → Answer Declared
 declarator given first d before answer =
-    with_fault (derived before.scopes.structs first given.type (steps_or_outline d answer)).fault
-      (then_do answer (λ ds s.
-      gives (declared_by given first (declarator_name d) (derived before.scopes.structs first given.type ds).type ds) s))
+    with_fault (steps_fault before.scopes.structs first given.type (steps_or_outline d answer))
+    (then_do answer (λ ds s.
+    gives (declared_by given first (declarator_name d) (derived before.scopes.structs first given.type ds).type ds) s))

@@ -72,8 +72,8 @@ rule_if broken rule = if broken then Some rule else None
 abbrev pub typed_rule : List Structure → Setting → syntax.Declarator → Declaration → Scopes → Option ℕ
 typed_rule structs g d x s =
     or_rule (broken_rule x s)
-      (or_rule (rule_if (follows_no_function g d || is_body g.ending && has_bad_parameter structs (form_of_type x.ty)) 37)
-      (or_rule (rule_if (defines_variadic g d) 38) (or_rule (rule_if (initializes_again g x s) 39) (rule_if (is_bad_main x) 47))))
+    (or_rule (rule_if (follows_no_function g d || is_body g.ending && has_bad_parameter structs (form_of_type x.ty)) 37)
+    (or_rule (rule_if (defines_variadic g d) 38) (or_rule (rule_if (initializes_again g x s) 39) (rule_if (is_bad_main x) 47))))
 
 -- C07 as far as it needs no type
 abbrev pub is_built_otherwise : Declaration → Bool
@@ -83,11 +83,11 @@ is_built_otherwise x = is_otherwise x (option_map (λ type. x.ty) (built_in_type
 abbrev pub untyped_rule : Setting → syntax.Declarator → Declaration → Scopes → Option ℕ
 untyped_rule g d x s =
     or_rule (rule_if (has_prefix x.name) 1)
-      (or_rule (rule_if (clashes_with x (standing x s)) 2)
-      (or_rule (rule_if (links_otherwise x (earlier x s)) 4)
-      (or_rule (rule_if (is_built_otherwise x) 7)
-      (or_rule (rule_if (follows_no_function g d) 37)
-      (or_rule (rule_if (defines_variadic g d) 38) (rule_if (initializes_again g x s) 39))))))
+    (or_rule (rule_if (clashes_with x (standing x s)) 2)
+    (or_rule (rule_if (links_otherwise x (earlier x s)) 4)
+    (or_rule (rule_if (is_built_otherwise x) 7)
+    (or_rule (rule_if (follows_no_function g d) 37)
+    (or_rule (rule_if (defines_variadic g d) 38) (rule_if (initializes_again g x s) 39))))))
 
 abbrev pub typed_name_rule : Setting → syntax.Declarator → CType → Scopes → Name → Option ℕ
 typed_name_rule g d type s name = typed_rule s.structs g d (declaration g name type s) s
@@ -111,4 +111,4 @@ result_fault structs first type = fault_if (gives_incomplete structs (form_of_ty
 abbrev pub body_faults : List Structure → (at first : Place) → CType → Option Fault
 body_faults structs at first type =
     first_of_faults (fault_if (has_bad_parameter structs (form_of_type type)) at 37)
-      (first_of_faults (fault_if (is_variadic_form (form_of_type type)) at 38) (result_fault structs first type))
+    (first_of_faults (fault_if (is_variadic_form (form_of_type type)) at 38) (result_fault structs first type))

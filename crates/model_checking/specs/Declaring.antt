@@ -19,6 +19,7 @@ use Rattle.model_checking.specs.Parts.{Specified, Declared}
 use Rattle.model_checking.specs.FaultsBeside.{first_of_faults, fault_if, with_fault}
 use Rattle.model_checking.specs.DeclarationContexts.{Context, of_definition}
 use Rattle.model_checking.specs.DeclaratorNames.{declarator_name, rule_at}
+use Rattle.model_checking.specs.DeclaratorTypes.{own_parameters_fault}
 use Rattle.model_checking.specs.DeclaredNames.{Setting, Ending, no_value, an_initializer, a_body, gives_value, is_body, declaration}
 use Rattle.model_checking.specs.DeclaredNameRules.{typed_name_rule, untyped_name_rule, body_faults, result_fault}
 
@@ -59,11 +60,16 @@ abbrev pub result_fault_if : (is_body : Bool) → List Structure → (first : Pl
 result_fault_if true structs first type = result_fault structs first type
 result_fault_if false structs first type = None
 
-abbrev pub declarator_faults : List Structure → Setting → (first : Place) → (uses_itself : Bool) → Declaration → Option Fault
-declarator_faults structs g first uses_itself d =
-    first_of_faults (fault_if (wants_complete structs d.kind g d) first 22)
-      (first_of_faults (fault_if (lacks_constant d.kind g uses_itself) first 32)
-        (result_fault_if (is_body g.ending) structs first d.ty))
+-- C28 of parameters, which are asked otherwise where there is a body
+abbrev pub parameters_fault : (is_body : Bool) → Declared → Option Fault
+parameters_fault true x = None
+parameters_fault false x = own_parameters_fault x
+
+abbrev pub declarator_faults : List Structure → Setting → Declared → (uses_itself : Bool) → Declaration → Option Fault
+declarator_faults structs g x uses_itself d =
+    first_of_faults (fault_if (wants_complete structs d.kind g d) x.first 22)
+    (first_of_faults (fault_if (lacks_constant d.kind g uses_itself) x.first 32)
+    (first_of_faults (result_fault_if (is_body g.ending) structs x.first d.ty) (parameters_fault (is_body g.ending) x)))
 
 -- ---- what is bound
 
@@ -101,8 +107,8 @@ bound_with u g x d s = gives (bound_as g x d (id_of d s.scopes)) (state_with u g
 abbrev pub bound : Use → Setting → (uses_itself : Bool) → syntax.Declarator → Declared → Name → CType → State → Answer Bound
 bound u g uses_itself d x name type s =
     with_fault (rule_at (typed_name_rule g d type s.scopes) (Some name))
-      (unless (declarator_faults s.scopes.structs g x.first uses_itself (declaration g name type s.scopes))
-      (bound_with u g x (declaration g name type s.scopes) s))
+    (unless (declarator_faults s.scopes.structs g x uses_itself (declaration g name type s.scopes))
+    (bound_with u g x (declaration g name type s.scopes) s))
 
 -- a function whose type is to be inferred is none (C31)
 abbrev pub bound_if : Use → Setting → (uses_itself : Bool) → syntax.Declarator → Declared → Option Name → Option CType → State → Answer Bound
@@ -114,7 +120,7 @@ bound_if u g uses_itself d x name type s = breaks x.first 31
 abbrev pub bind_in : Use → Setting → (uses_itself : Bool) → Specified → syntax.Declarator → (before : State) → Answer Declared → Answer Bound
 bind_in u g uses_itself given d before answer =
     with_fault (rule_at (untyped_name_rule g given.type d before.scopes) (declarator_name d))
-      (then_do answer (λ x s. bound_if u g uses_itself d x (declarator_name d) x.type s))
+    (then_do answer (λ x s. bound_if u g uses_itself d x (declarator_name d) x.type s))
 
 abbrev pub ending_of : syntax.MaybeInitializer → Ending
 ending_of syntax.no_initializer = no_value

@@ -134,10 +134,10 @@ range_fault e name value = fault_if (not (fits (basic_of (form_of_type (enumerat
 abbrev pub with_enumerator : Enumeration → Name → ℤ → State → Answer ℤ
 with_enumerator e name value s =
     with_fault (rule_at (enumerator_rule e s) (Some name))
-      (unless (range_fault e name value) (gives value (in_scopes (declare (enumerator_declaration e name value) s.scopes) s)))
+    (unless (range_fault e name value) (gives value (in_scopes (declare (enumerator_declaration e name value) s.scopes) s)))
 
 -- an enumerator behind one of a value: the answer is the constant that it is given, if any, and the state the one before
 abbrev pub enumerator : Enumeration → (previous : Option ℤ) → Name → (before : State) → Answer (Option ℤ) → Answer ℤ
 enumerator e previous name before answer =
     with_fault (rule_at (enumerator_rule e before) (Some name))
-      (then_do answer (λ given s. with_enumerator e name (value_behind previous given) s))
+    (then_do answer (λ given s. with_enumerator e name (value_behind previous given) s))

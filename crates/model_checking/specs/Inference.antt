@@ -45,7 +45,7 @@ setting_in context given initializer = record { context = context; storage = giv
 abbrev pub first_fault_of : Context → Specified → (uses_itself : Bool) → State → (first : Place) → syntax.Declarator → syntax.MaybeInitializer → (others : syntax.InitDeclarators) → Option Fault
 first_fault_of context given uses_itself s first d initializer others =
     first_of_faults (rule_at (untyped_name_rule (setting_in context given initializer) None d s.scopes) (declarator_name d))
-      (fault_if (if uses_itself then true else not (may_infer d initializer others)) first 31)
+    (fault_if (if uses_itself then true else not (may_infer d initializer others)) first 31)
 
 -- before the initializer is read; `specs_place` is the first token of the specifiers
 abbrev pub inference_fault : Context → Specified → (uses_itself : Bool) → (specs_place : Place) → syntax.InitDeclarators → State → Option Fault
@@ -68,7 +68,7 @@ inferred given first d type = declared_by given first (declarator_name d) (Some 
 abbrev pub bound_inferred : Use → Context → Specified → (first : Place) → syntax.Declarator → CType → State → Answer Bound
 bound_inferred u context given first d type s =
     bound_if u (record { context = context; storage = given.storage; ending = an_initializer }) false d (inferred given first d type)
-      (declarator_name d) (Some type) s
+    (declarator_name d) (Some type) s
 
 -- behind the value of its initializer, which has this type; C22 where it is void or incomplete
 abbrev pub bind_inferred : Use → Context → syntax.Specs → Specified → (first : Place) → syntax.Declarator → (value : CType) → State → Answer Bound

@@ -6,7 +6,7 @@ use Rattle.cake_base.specs.declared.places.Place.{Place}
 use Rattle.model_types.specs.Types as t
 use Rattle.model_types.specs.Types.{CType, typed}
 use Rattle.model_types.specs.Compatible.{same_quals}
-use Rattle.model_core.specs.CoreTypes.{no_quals, pointer_to, int_type, is_void}
+use Rattle.model_core.specs.CoreTypes.{no_quals, pointer_to, int_type}
 use Rattle.model_scopes.specs.declared.declarations.Kind.{Kind}
 use Rattle.model_scopes.specs.declared.declarations.Kind.TheVariants.{Object, Function, TypeName, Enumerator, Tag}
 use Rattle.model_scopes.specs.declared.declarations.Linkage.TheVariants.{Absent}
@@ -18,9 +18,10 @@ use Rattle.model_grammar.specs.declared.syntax.Name.{Name}
 use Rattle.model_grammar.specs.SyntaxForms as syntax
 use Rattle.model_checking.specs.State.{State, Answer, gives, unless, then_do, in_scopes}
 use Rattle.model_checking.specs.Parts as part
-use Rattle.model_checking.specs.FaultsBeside.{fault_if, with_fault}
+use Rattle.model_checking.specs.FaultsBeside.{with_fault}
 use Rattle.model_checking.specs.DeclaratorNames.{declarator_name, rule_at}
 use Rattle.model_checking.specs.Derivations.{Derivation, a_function}
+use Rattle.model_checking.specs.DeclaratorTypes.{own_parameters_fault}
 
 -- in the scope of a list
 abbrev pub begin_parameters : State → State
@@ -76,11 +77,11 @@ abbrev pub has_no_name : Option Name → Bool
 has_no_name None = true
 has_no_name (Some name) = false
 
--- a list that is `void` alone declares no parameter; else none has type void (C28)
+-- a list that is `void` alone declares no parameter; else one has type void for now: its list is refused behind (C28, C37)
 abbrev pub parameter_of : (is_alone : Bool) → Option Name → part.Declared → CType → State → Answer (Option CType)
 parameter_of is_alone name d type s =
     if is_alone && has_no_name name && is_plain_void type then gives None s
-    else unless (fault_if (is_void type) d.first 28) (with_parameter (parameter_declaration (unwrap_or d.name []) d.place (adjusted type)) s)
+    else unless (own_parameters_fault d) (with_parameter (parameter_declaration (unwrap_or d.name []) d.place (adjusted type)) s)
 
 abbrev pub parameter_if : (is_alone : Bool) → Option Name → part.Declared → Option CType → State → Answer (Option CType)
 parameter_if is_alone name d None s = gives None s
@@ -91,8 +92,8 @@ parameter_if is_alone name d (Some type) s = parameter_of is_alone name d type s
 abbrev pub parameter : (is_alone : Bool) → syntax.Declarator → (before : State) → Answer part.Declared → Answer (Option CType)
 parameter is_alone declarator before answer =
     with_fault (rule_at (parameter_rule before) (declarator_name declarator))
-      (then_do answer (λ d s.
-      with_fault (rule_at (parameter_rule s) (declarator_name declarator)) (parameter_if is_alone (declarator_name declarator) d d.type s)))
+    (then_do answer (λ d s.
+    with_fault (rule_at (parameter_rule s) (declarator_name declarator)) (parameter_if is_alone (declarator_name declarator) d d.type s)))
 
 -- ---- behind the list
 

@@ -18,6 +18,7 @@ use Rattle.model_scopes.specs.Declarations.{Value}
 use Rattle.model_scopes.specs.Declaring.{settle}
 use Rattle.model_checking.specs.State.{State, Answer, gives, then_do, in_scopes}
 use Rattle.model_checking.specs.Parts.{Given, a_value, a_text, in_braces, faulty, GivenStep, to_element, to_no_element, to_member, faulty_index, GivenItems, no_given, more_given}
+use Rattle.model_checking.specs.Faults.{or_fault}
 use Rattle.model_checking.specs.FaultsBeside.{fault_if, with_fault}
 use Rattle.model_checking.specs.Placing.{given_first}
 use Rattle.model_checking.specs.Initializing.{Initialized, initialized, given_value}
@@ -85,14 +86,10 @@ settled b given o s = in_scopes (settle b.id o.type (known_if b.is_constexpr (fo
 abbrev pub object_with : Bound → Given → State → Answer (Option unit.Stat)
 object_with b given s =
     with_fault (constant_fault b.is_constexpr b.declared.ty given)
-      (then_do (initialized (not b.declared.automatic) b.first b.declared.place b.declared.ty given s) (λ o s.
-      started b.declared.automatic b o (settled b given o s)))
+    (then_do (initialized (not b.declared.automatic) b.first b.declared.place b.declared.ty given s) (λ o s.
+    started b.declared.automatic b o (settled b given o s)))
 
 -- ---- what else has an initializer: it is only looked at by itself
-
-abbrev pub first_of_two : Option Fault → Option Fault → Option Fault
-first_of_two (Some fault) behind = Some fault
-first_of_two None behind = behind
 
 abbrev pub step_fault : GivenStep → Option Fault
 step_fault (to_element index place) = None
@@ -102,7 +99,7 @@ step_fault (faulty_index fault place) = Some fault
 
 abbrev pub steps_fault : List GivenStep → Option Fault
 steps_fault [] = None
-steps_fault (s ∷ ss) = first_of_two (step_fault s) (steps_fault ss)
+steps_fault (s ∷ ss) = or_fault (step_fault s) (steps_fault ss)
 
 abbrev mutual
   -- the first fault in an initializer
@@ -114,7 +111,7 @@ abbrev mutual
 
   pub items_fault : GivenItems → Option Fault
   items_fault no_given = None
-  items_fault (more_given steps first others) = first_of_two (steps_fault steps) (first_of_two (given_fault first) (items_fault others))
+  items_fault (more_given steps first others) = or_fault (steps_fault steps) (or_fault (given_fault first) (items_fault others))
 
 abbrev pub nothing_unless : Option Fault → State → Answer (Option unit.Stat)
 nothing_unless None s = gives None s

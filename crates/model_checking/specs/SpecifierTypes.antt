@@ -50,7 +50,7 @@ abbrev pub specified_by : List Word → Option CType → Result Specified Fault
 specified_by words None = Ok (record { type = None; storage = storage_of words })
 specified_by words (Some type) =
     unless (qualifier_fault (qualifiers_of words) type)
-      (Ok (record { type = Some (qualified (qualifiers_of words) type); storage = storage_of words }))
+    (Ok (record { type = Some (qualified (qualifiers_of words) type); storage = storage_of words }))
 
 abbrev pub specified : (given : Option CType) → List Word → Result Specified Fault
 specified given words = specified_by words (type_or_words given words)

@@ -5,6 +5,7 @@ use Rattle.std.specs.List.{list_any}
 use Rattle.cake_base.specs.declared.places.Place.{Place}
 use Rattle.cake_base.specs.declared.rules.Fault.{Fault}
 use Rattle.model_core.specs.CoreTypes.{no_quals}
+use Rattle.model_scopes.specs.Declaring.{or_place}
 use Rattle.model_grammar.specs.declared.syntax.StorageWord.{StorageWord}
 use Rattle.model_grammar.specs.declared.syntax.StorageWord.TheVariants.{Extern, Static, Auto, Register, Constexpr}
 use Rattle.model_grammar.specs.SyntaxForms as syntax
@@ -64,12 +65,8 @@ first_place (w ∷ ws) = Some (place_of_word w)
 abbrev pub missing_type : List Word → Option Place
 missing_type words = if lacks_type words then first_place words else None
 
-abbrev pub or_else : Option Place → Option Place → Option Place
-or_else (Some place) other = Some place
-or_else None other = other
-
 abbrev pub combination_fault : List Word → Option Fault
-combination_fault words = fault_at (or_else (first_uncombined [] words) (missing_type words)) 27
+combination_fault words = fault_at (or_place (first_uncombined [] words) (missing_type words)) 27
 
 -- ---- C48: a word of storage that isn't allowed where the list stands, or `inline` without `static`
 
@@ -104,7 +101,7 @@ pointer_fault words =
 abbrev pub first_of_words : Context → List Word → Option Fault
 first_of_words context words =
     first_of_faults (combination_fault words)
-      (first_of_faults (pointer_fault words) (first_of_faults (storage_fault context words) (inline_fault words)))
+    (first_of_faults (pointer_fault words) (first_of_faults (storage_fault context words) (inline_fault words)))
 
 abbrev pub words_fault : Context → syntax.Specs → Option Fault
 words_fault context specs = first_of_words context (words_of specs)

@@ -36,7 +36,7 @@ with_next tag place s = in_scopes (with_struct (option_map (λ name. name.text) 
 abbrev pub new_struct : Name → (has_braces : Bool) → (place : Place) → State → Answer StructId
 new_struct name has_braces place s =
     then_do (declared_tag (tag_declaration name (struct_type (next_id s)) has_braces) (with_next (Some name) place s))
-      (λ type behind. gives (next_id s) behind)
+    (λ type behind. gives (next_id s) behind)
 
 -- ---- `struct` and a tag without braces
 
@@ -91,7 +91,7 @@ member_rule members name = if has_prefix name.text then Some 1 else if has_membe
 abbrev pub with_member : Use → List Member → Name → CType → (first : Place) → State → Answer (List Member)
 with_member u members name type first s =
     unless (fault_if (not (is_complete s.scopes.structs type)) first 22)
-      (gives (members ++ record { name = name.text; ty = type; place = name.place } ∷ []) (note_type u name.place type s))
+    (gives (members ++ record { name = name.text; ty = type; place = name.place } ∷ []) (note_type u name.place type s))
 
 abbrev pub with_member_if : Use → List Member → Option Name → Option CType → (first : Place) → State → Answer (List Member)
 with_member_if u members (Some name) (Some type) first s = with_member u members name type first s
@@ -101,7 +101,7 @@ with_member_if u members name type first s = gives members s
 abbrev pub member : Use → List Member → syntax.Declarator → Answer part.Declared → Answer (List Member)
 member u members declarator answer =
     with_fault (rule_at (member_rule members) (declarator_name declarator))
-      (then_do answer (λ d s. with_member_if u members (declarator_name declarator) d.type d.first s))
+    (then_do answer (λ d s. with_member_if u members (declarator_name declarator) d.type d.first s))
 
 -- ---- behind the members
 

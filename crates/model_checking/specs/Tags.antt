@@ -1,15 +1,13 @@
 -- Structures and enumerations by their tags (ISO/IEC 9899:2024, 6.2.1, 6.7.3.2, 6.7.3.4). A tag is looked up where it is
 -- used, and declared where it has its braces, where it stands alone with `;`, or where none is visible.
-use Rattle.std.specs.Prelude.{ℕ, Bool, true, false, List, length, Option, Some, None, if◌then◌else◌}
-use Rattle.cake_base.specs.declared.places.Place.{Place}
-use Rattle.model_types.specs.Types.{CType, Struct, form_of_type}
-use Rattle.model_core.specs.CoreTypes.{plain}
+use Rattle.std.specs.Prelude.{ℕ, Bool, true, false, Option, Some, None}
+use Rattle.model_types.specs.Types.{CType}
 use Rattle.model_scopes.specs.declared.declarations.Kind.TheVariants.{Tag}
 use Rattle.model_scopes.specs.declared.declarations.Linkage.TheVariants.{Absent}
 use Rattle.model_scopes.specs.Declarations.{Declaration}
-use Rattle.model_scopes.specs.Scopes.{Declared, with_struct}
+use Rattle.model_scopes.specs.Scopes.{Declared}
 use Rattle.model_scopes.specs.Binding.{look, here, declared_as}
-use Rattle.model_scopes.specs.DeclarationRules.{broken_rule, is_struct_form}
+use Rattle.model_scopes.specs.DeclarationRules.{broken_rule}
 use Rattle.model_scopes.specs.Declaring.{declare}
 use Rattle.model_grammar.specs.declared.syntax.Name.{Name}
 use Rattle.model_grammar.specs.SyntaxForms as syntax
@@ -52,30 +50,3 @@ declared_unless None d s = gives d.ty (in_scopes (declare d s.scopes) s)
 -- C01 and C06 at the tag
 abbrev pub declared_tag : Declaration → State → Answer CType
 declared_tag d s = declared_unless (broken_rule d s.scopes) d s
-
--- the type that a tag has, and must have kept its kind (C06)
-abbrev pub type_of_kind : (is_struct : Bool) → Name → CType → State → Answer CType
-type_of_kind true name type s = if is_struct_form (form_of_type type) then gives type s else breaks name.place 6
-type_of_kind false name type s = if is_struct_form (form_of_type type) then breaks name.place 6 else gives type s
-
--- ---- structures
-
--- the type of the next structure
-abbrev pub next_struct : State → CType
-next_struct s = plain (Struct (record { 0 = length s.scopes.structs }))
-
-abbrev pub with_next_struct : Option (List ℕ) → Place → State → State
-with_next_struct tag place s = in_scopes (with_struct tag place s.scopes) s
-
--- a new structure with a tag; `place` is that of the word `struct`
-abbrev pub new_struct : Name → (has_braces : Bool) → Place → State → Answer CType
-new_struct name has_braces place s =
-    declared_tag (tag_declaration name (next_struct s) has_braces) (with_next_struct (Some name.text) place s)
-
-abbrev pub struct_by : Option Declared → Name → Place → State → Answer CType
-struct_by (Some d) name place s = type_of_kind true name d.latest.ty s
-struct_by None name place s = new_struct name false place s
-
--- `struct` and a tag without braces
-abbrev pub struct_tag : (is_lone : Bool) → Name → (place : Place) → State → Answer CType
-struct_tag is_lone name place s = struct_by (tag_found is_lone name s) name place s
