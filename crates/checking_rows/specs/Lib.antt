@@ -37,3 +37,8 @@ pub mod DeclarationDeclarators1
 pub mod DeclarationDeclarators2
 pub mod DeclarationDeclarators3
 pub mod DeclarationOrder
+pub mod ExpressionUnitsOperators
+pub mod ExpressionUnitsPointers
+pub mod ExpressionUnitsCalls
+pub mod ExpressionUnitsValues
+pub mod ExpressionUnitsAccepted

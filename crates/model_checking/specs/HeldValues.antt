@@ -1,9 +1,9 @@
 -- The object of temporary lifetime that holds the value of a structure whose array member is asked for, as in
 -- `f().a[0]` (ISO/IEC 9899:2024, 6.2.4).
 use Rattle.std.specs.Prelude.{ℕ, Bool, true, false, [], ◌∷◌, ◌++◌, None}
-use Rattle.model_types.specs.declared.marks.Origin.TheVariants.{Implied}
 use Rattle.model_core.specs.CoreTypes.{type_of}
 use Rattle.model_core.specs.SourceMarks.{expr_mark}
+use Rattle.model_types.specs.declared.marks.Origin.TheVariants.{Implied}
 use Rattle.model_core.specs.Core as unit
 use Rattle.model_checking.specs.State.{Use, State, Made}
 use Rattle.model_checking.specs.Literals.{is_evaluated, with_made}
