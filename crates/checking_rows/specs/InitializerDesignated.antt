@@ -2,7 +2,8 @@
 use Rattle.std.specs.Prelude.{pos, codes, [], ◌∷◌}
 use Rattle.model_core.specs.CoreTypes.{int_type}
 use Rattle.model_checking.specs.Parts.{to_element, to_no_element, to_member, faulty_index, faulty}
-use Rattle.checking_rows.specs.InitializerParts.{at, broken, list, to, number, array, unsized, point, line, Example, automatic_one}
+use Rattle.checking_rows.specs.InitializerParts.{at, broken, list, to, number, array, unsized, point, line}
+use Rattle.checking_rows.specs.InitializerAnswers.{Example, automatic_one}
 
 -- struct point x = {.x = 1, .z = 2};
 abbrev pub no_member : Example

@@ -2,7 +2,8 @@
 use Rattle.std.specs.Prelude.{pos, codes, [], ◌∷◌}
 use Rattle.model_core.specs.CoreTypes.{int_type}
 use Rattle.model_checking.specs.Parts.{to_element, to_member}
-use Rattle.checking_rows.specs.InitializerParts.{at, list, next, to, text, number, array, pair, line, grid, Example, automatic_one}
+use Rattle.checking_rows.specs.InitializerParts.{at, list, next, to, text, number, array, pair, line, grid}
+use Rattle.checking_rows.specs.InitializerAnswers.{Example, automatic_one}
 
 -- int x[4] = {[2] = 1, 2};
 abbrev pub goes_on : Example

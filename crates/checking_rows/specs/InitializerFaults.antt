@@ -2,7 +2,8 @@
 use Rattle.std.specs.Prelude.{pos, codes, [], ◌∷◌}
 use Rattle.model_core.specs.CoreTypes.{int_type}
 use Rattle.model_checking.specs.Parts.{to_member}
-use Rattle.checking_rows.specs.InitializerParts.{at, list, next, to, text, number, value, loaded, string_address, array, char_type, const_char_pointer, char_pointer, pair, point, line, Example, automatic_one}
+use Rattle.checking_rows.specs.InitializerParts.{at, list, next, to, text, number, value, loaded, string_address, array, char_type, const_char_pointer, char_pointer, pair, point, line}
+use Rattle.checking_rows.specs.InitializerAnswers.{Example, automatic_one}
 
 -- int x[2] = {1, 2, 3};
 abbrev pub too_many : Example

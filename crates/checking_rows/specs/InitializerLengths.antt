@@ -2,7 +2,8 @@
 use Rattle.std.specs.Prelude.{pos, codes, [], ◌∷◌}
 use Rattle.model_core.specs.CoreTypes.{int_type}
 use Rattle.model_checking.specs.Parts.{to_element}
-use Rattle.checking_rows.specs.InitializerParts.{at, list, next, to, text, number, array, unsized, char_type, pair, Example, automatic_one}
+use Rattle.checking_rows.specs.InitializerParts.{at, list, next, to, text, number, array, unsized, char_type, pair}
+use Rattle.checking_rows.specs.InitializerAnswers.{Example, automatic_one}
 
 -- int x[] = {1, 2, 3};
 abbrev pub by_elements : Example

@@ -1,7 +1,8 @@
 -- Lists in braces, with elided and superfluous braces.
 use Rattle.std.specs.Prelude.{pos, negsuc, [], ◌∷◌}
 use Rattle.model_core.specs.CoreTypes.{int_type}
-use Rattle.checking_rows.specs.InitializerParts.{list, next, number, array, char_type, bool_type, long_type, pair, line, grid, Example, automatic_one}
+use Rattle.checking_rows.specs.InitializerParts.{list, next, number, array, char_type, bool_type, long_type, pair, line, grid}
+use Rattle.checking_rows.specs.InitializerAnswers.{Example, automatic_one}
 
 -- int x[4] = {1, 2};
 abbrev pub missing_are_zero : Example

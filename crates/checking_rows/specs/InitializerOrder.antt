@@ -2,7 +2,8 @@
 use Rattle.std.specs.Prelude.{pos, codes, [], ◌∷◌}
 use Rattle.model_core.specs.CoreTypes.{int_type}
 use Rattle.model_checking.specs.Parts.{to_element, faulty}
-use Rattle.checking_rows.specs.InitializerParts.{at, broken, list, next, to, text, number, value, called, string_address, array, unsized, char_type, void_type, point, Example, automatic_one}
+use Rattle.checking_rows.specs.InitializerParts.{at, broken, list, next, to, text, number, value, called, string_address, array, unsized, char_type, void_type, point}
+use Rattle.checking_rows.specs.InitializerAnswers.{Example, automatic_one}
 
 -- int x = v();
 abbrev pub no_value : Example

@@ -4,7 +4,8 @@ use Rattle.model_types.specs.declared.numbers.BinOp.TheVariants.{Div}
 use Rattle.model_core.specs.CoreTypes.{int_type}
 use Rattle.model_core.specs.Core as unit
 use Rattle.model_checking.specs.Parts.{to_element, to_member}
-use Rattle.checking_rows.specs.InitializerParts.{at, list, next, to, text, number, value, constant, loaded, decayed, address, called, array, char_type, const_char_pointer, int_pointer, point, line, mark, Example, static_one}
+use Rattle.checking_rows.specs.InitializerParts.{at, list, next, to, text, number, value, constant, loaded, decayed, address, called, array, char_type, const_char_pointer, int_pointer, point, line, mark}
+use Rattle.checking_rows.specs.InitializerAnswers.{Example, static_one}
 
 -- static int x[4] = {1, 2};
 abbrev pub given : Example

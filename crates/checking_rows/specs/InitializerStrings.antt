@@ -1,7 +1,8 @@
 -- Strings for arrays of characters.
 use Rattle.std.specs.Prelude.{pos, codes, [], ◌∷◌}
 use Rattle.model_checking.specs.Parts.{to_element, to_member}
-use Rattle.checking_rows.specs.InitializerParts.{at, list, next, to, text, number, array, char_type, signed_char_type, unsigned_char_type, named, Example, automatic_one}
+use Rattle.checking_rows.specs.InitializerParts.{at, list, next, to, text, number, array, char_type, signed_char_type, unsigned_char_type, named}
+use Rattle.checking_rows.specs.InitializerAnswers.{Example, automatic_one}
 
 -- char x[4] = "ab";
 abbrev pub padded : Example

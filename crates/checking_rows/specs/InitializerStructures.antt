@@ -2,7 +2,8 @@
 use Rattle.std.specs.Prelude.{pos, codes, [], ◌∷◌}
 use Rattle.model_core.specs.CoreTypes.{int_type}
 use Rattle.model_checking.specs.Parts.{to_element, to_member}
-use Rattle.checking_rows.specs.InitializerParts.{at, list, next, to, text, number, value, loaded, called, array, const_char_pointer, char_pointer, point, line, item, Example, automatic_one}
+use Rattle.checking_rows.specs.InitializerParts.{at, list, next, to, text, number, value, loaded, called, array, const_char_pointer, char_pointer, point, line, item}
+use Rattle.checking_rows.specs.InitializerAnswers.{Example, automatic_one}
 
 -- struct point x = p;
 abbrev pub whole : Example

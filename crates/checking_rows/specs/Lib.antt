@@ -5,6 +5,7 @@ pub mod ExpressionStructures
 pub mod ExpressionConstants
 pub mod ExpressionNames
 pub mod InitializerParts
+pub mod InitializerAnswers
 pub mod InitializerLists
 pub mod InitializerDesignators
 pub mod InitializerStrings
@@ -14,6 +15,8 @@ pub mod InitializerStatic
 pub mod InitializerFaults
 pub mod InitializerDesignated
 pub mod InitializerOrder
+pub mod InitializerLiterals
+pub mod InitializerBodies
 pub mod DeclarationParts
 pub mod DeclarationNames1
 pub mod DeclarationNames2

@@ -1,6 +1,6 @@
 //! Designators that do not fit, and faulty ones.
 ghost use Rattle.std.specs.Prelude.{◌≡◌};
-ghost use Rattle.checking_rows.specs.InitializerParts.{outcome, breaks};
+ghost use Rattle.checking_rows.specs.InitializerAnswers.{outcome, breaks};
 ghost use Rattle.checking_rows.specs.InitializerDesignated as rows;
 
 /// Designators that do not fit, and faulty ones.

@@ -1,6 +1,6 @@
 //! Designators, what stands behind them, and what is overridden.
 ghost use Rattle.std.specs.Prelude.{◌≡◌, pos, [], ◌∷◌};
-ghost use Rattle.checking_rows.specs.InitializerParts.{numbers};
+ghost use Rattle.checking_rows.specs.InitializerAnswers.{numbers};
 ghost use Rattle.checking_rows.specs.InitializerDesignators as rows;
 
 /// Designators, what stands behind them, and what is overridden.

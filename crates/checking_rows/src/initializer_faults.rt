@@ -1,6 +1,6 @@
 //! Values that do not fit what they are for, and those that are too many.
 ghost use Rattle.std.specs.Prelude.{◌≡◌};
-ghost use Rattle.checking_rows.specs.InitializerParts.{outcome, breaks};
+ghost use Rattle.checking_rows.specs.InitializerAnswers.{outcome, breaks};
 ghost use Rattle.checking_rows.specs.InitializerFaults as rows;
 
 /// Values that do not fit what they are for, and those that are too many.

@@ -1,7 +1,8 @@
 //! Arrays without a length get one, of their type as well.
 ghost use Rattle.std.specs.Prelude.{◌≡◌, pos, Some, [], ◌∷◌};
 ghost use Rattle.model_core.specs.CoreTypes.{int_type};
-ghost use Rattle.checking_rows.specs.InitializerParts.{array, char_type, pair, numbers, type_after};
+ghost use Rattle.checking_rows.specs.InitializerParts.{array, char_type, pair};
+ghost use Rattle.checking_rows.specs.InitializerAnswers.{numbers, type_after};
 ghost use Rattle.checking_rows.specs.InitializerLengths as rows;
 
 /// Arrays without a length get one, of their type as well.

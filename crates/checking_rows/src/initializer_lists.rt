@@ -1,6 +1,6 @@
 //! Lists in braces, with elided and superfluous braces.
 ghost use Rattle.std.specs.Prelude.{◌≡◌, pos, negsuc, [], ◌∷◌};
-ghost use Rattle.checking_rows.specs.InitializerParts.{numbers};
+ghost use Rattle.checking_rows.specs.InitializerAnswers.{numbers};
 ghost use Rattle.checking_rows.specs.InitializerLists as rows;
 
 /// Lists in braces, with elided and superfluous braces.

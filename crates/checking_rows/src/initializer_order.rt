@@ -1,6 +1,6 @@
 //! Two rules at one token, and faults of values beside those of their places.
 ghost use Rattle.std.specs.Prelude.{◌≡◌};
-ghost use Rattle.checking_rows.specs.InitializerParts.{outcome, breaks};
+ghost use Rattle.checking_rows.specs.InitializerAnswers.{outcome, breaks};
 ghost use Rattle.checking_rows.specs.InitializerOrder as rows;
 
 /// Two rules at one token, and faults of values beside those of their places.

@@ -1,6 +1,6 @@
 //! Objects of static storage keep what the source gives, the rest is zero; constants alone are given.
 ghost use Rattle.std.specs.Prelude.{◌≡◌, pos, [], ◌∷◌};
-ghost use Rattle.checking_rows.specs.InitializerParts.{outcome, gets, breaks, value_at, number_is, address_of, another};
+ghost use Rattle.checking_rows.specs.InitializerAnswers.{outcome, gets, breaks, value_at, number_is, address_of, another};
 ghost use Rattle.checking_rows.specs.InitializerStatic as rows;
 
 /// Objects of static storage keep what the source gives, the rest is zero; constants alone are given.

@@ -1,6 +1,6 @@
 //! Strings for arrays of characters.
 ghost use Rattle.std.specs.Prelude.{◌≡◌, pos, negsuc, [], ◌∷◌};
-ghost use Rattle.checking_rows.specs.InitializerParts.{numbers};
+ghost use Rattle.checking_rows.specs.InitializerAnswers.{numbers};
 ghost use Rattle.checking_rows.specs.InitializerStrings as rows;
 
 /// Strings for arrays of characters.

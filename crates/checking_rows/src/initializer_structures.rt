@@ -1,6 +1,6 @@
 //! Values of whole structures, and values that no constant shows; in the order of offsets.
 ghost use Rattle.std.specs.Prelude.{◌≡◌, pos, [], ◌∷◌};
-ghost use Rattle.checking_rows.specs.InitializerParts.{outcome, gets, value_at, number_is, held_by, address_of, result_of};
+ghost use Rattle.checking_rows.specs.InitializerAnswers.{outcome, gets, value_at, number_is, held_by, address_of, result_of};
 ghost use Rattle.checking_rows.specs.InitializerStructures as rows;
 
 /// Values of whole structures, and values that no constant shows; in the order of offsets.

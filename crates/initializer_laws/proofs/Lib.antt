@@ -1,0 +1,3 @@
+pub mod ShiftedWays
+pub mod FirstTakers
+pub mod Elided

@@ -1,0 +1,4 @@
+//! Laws of initializers.
+#![tactic(auto)]
+
+pub mod laws;
