@@ -9,7 +9,6 @@ use Rattle.model_types.specs.Types.{CType, form_of_type}
 use Rattle.model_types.specs.Structures.{Structure}
 use Rattle.model_types.specs.Layout.{is_complete}
 use Rattle.model_scopes.specs.Scopes.{drawn, is_outermost}
-use Rattle.model_types.specs.declared.marks.Origin.TheVariants.{Written}
 use Rattle.model_core.specs.Core as unit
 use Rattle.model_checking.specs.State.{Use, Evaluated, Unevaluated, Made, State, Answer, gives, then_do}
 use Rattle.model_checking.specs.Meanings.{Meaning, a_place}
