@@ -1,0 +1,9 @@
+//! Tests of calls that no row of the real command reaches, a module a layer.
+#![tactic(auto)]
+
+#[cfg(test)]
+mod drawn;
+#[cfg(test)]
+mod flow;
+#[cfg(test)]
+mod memory;
