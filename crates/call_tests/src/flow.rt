@@ -28,10 +28,15 @@ enum Does {
 type Found = (u32, u32);
 
 const LIVE: Does = Does::Sets(0, &[State::Live]);
+
 const NULL: Does = Does::Sets(0, &[State::Null]);
+
 const EITHER: Does = Does::Sets(0, &[State::Null, State::Live]);
+
 const FREE: Does = Does::Gives(0, State::Deleted);
+
 const MOVE: Does = Does::Gives(0, State::Moved);
+
 const LEFT: Does = Does::Needs(0, State::Live, 1, 1);
 
 /// Actions that lead from the start on, each to the next point, and their findings.
@@ -39,59 +44,406 @@ const LINES: [(&str, &[Does], &[Found]); 33] = [
     ("no edge", &[], &[]),
     ("no state", &[LEFT], &[]),
     ("set", &[LIVE, LEFT], &[(1, 1)]),
-    ("set to another state", &[LIVE, Does::Needs(0, State::Deleted, 1, 4)], &[]),
-    ("set at another place", &[LIVE, Does::Needs(1, State::Live, 1, 1)], &[]),
-    ("set to two states", &[EITHER, Does::Needs(0, State::Live, 2, 1), Does::Needs(0, State::Null, 1, 6)], &[(1, 6), (2, 1)]),
-    ("set again", &[LIVE, NULL, LEFT, Does::Needs(0, State::Null, 2, 6)], &[(2, 6)]),
+    (
+        "set to another state",
+        &[LIVE, Does::Needs(0, State::Deleted, 1, 4)],
+        &[],
+    ),
+    (
+        "set at another place",
+        &[LIVE, Does::Needs(1, State::Live, 1, 1)],
+        &[],
+    ),
+    (
+        "set to two states",
+        &[
+            EITHER,
+            Does::Needs(0, State::Live, 2, 1),
+            Does::Needs(0, State::Null, 1, 6),
+        ],
+        &[(1, 6), (2, 1)],
+    ),
+    (
+        "set again",
+        &[LIVE, NULL, LEFT, Does::Needs(0, State::Null, 2, 6)],
+        &[(2, 6)],
+    ),
     ("set to no state", &[LIVE, Does::Sets(0, &[]), LEFT], &[]),
-    ("no value yet", &[Does::Sets(0, &[State::Uninitialised]), Does::Needs(0, State::Uninitialised, 1, 5)], &[(1, 5)]),
+    (
+        "no value yet",
+        &[
+            Does::Sets(0, &[State::Uninitialised]),
+            Does::Needs(0, State::Uninitialised, 1, 5),
+        ],
+        &[(1, 5)],
+    ),
     ("nothing is done", &[LIVE, Does::Nothing, LEFT], &[(1, 1)]),
-    ("a need stops its state", &[LIVE, LEFT, Does::Needs(0, State::Live, 2, 1)], &[(1, 1)]),
-    ("a need lets others pass", &[EITHER, Does::Needs(0, State::Null, 1, 6), Does::Needs(0, State::Live, 2, 1)], &[(1, 6), (2, 1)]),
-    ("a need of another place", &[LIVE, Does::Needs(1, State::Live, 1, 1), Does::Needs(0, State::Live, 2, 1)], &[(2, 1)]),
-    ("copy", &[LIVE, Does::Copies(1, 0), Does::Needs(1, State::Live, 1, 1)], &[(1, 1)]),
-    ("a copy keeps its source", &[LIVE, Does::Copies(1, 0), LEFT], &[(1, 1)]),
-    ("a copy loses what was there", &[LIVE, Does::Sets(1, &[State::Deleted]), Does::Copies(1, 0), Does::Needs(1, State::Deleted, 1, 4)], &[]),
-    ("a copy of no state", &[Does::Sets(1, &[State::Live]), Does::Copies(1, 0), Does::Needs(1, State::Live, 1, 1)], &[]),
-    ("a copy to itself", &[LIVE, Does::Copies(0, 0), LEFT], &[(1, 1)]),
-    ("a copy of a copy", &[LIVE, Does::Copies(1, 0), Does::Copies(2, 1), Does::Needs(2, State::Live, 1, 1)], &[(1, 1)]),
-    ("give", &[LIVE, MOVE, Does::Needs(0, State::Moved, 1, 3)], &[(1, 3)]),
+    (
+        "a need stops its state",
+        &[LIVE, LEFT, Does::Needs(0, State::Live, 2, 1)],
+        &[(1, 1)],
+    ),
+    (
+        "a need lets others pass",
+        &[
+            EITHER,
+            Does::Needs(0, State::Null, 1, 6),
+            Does::Needs(0, State::Live, 2, 1),
+        ],
+        &[(1, 6), (2, 1)],
+    ),
+    (
+        "a need of another place",
+        &[
+            LIVE,
+            Does::Needs(1, State::Live, 1, 1),
+            Does::Needs(0, State::Live, 2, 1),
+        ],
+        &[(2, 1)],
+    ),
+    (
+        "copy",
+        &[LIVE, Does::Copies(1, 0), Does::Needs(1, State::Live, 1, 1)],
+        &[(1, 1)],
+    ),
+    (
+        "a copy keeps its source",
+        &[LIVE, Does::Copies(1, 0), LEFT],
+        &[(1, 1)],
+    ),
+    (
+        "a copy loses what was there",
+        &[
+            LIVE,
+            Does::Sets(1, &[State::Deleted]),
+            Does::Copies(1, 0),
+            Does::Needs(1, State::Deleted, 1, 4),
+        ],
+        &[],
+    ),
+    (
+        "a copy of no state",
+        &[
+            Does::Sets(1, &[State::Live]),
+            Does::Copies(1, 0),
+            Does::Needs(1, State::Live, 1, 1),
+        ],
+        &[],
+    ),
+    (
+        "a copy to itself",
+        &[LIVE, Does::Copies(0, 0), LEFT],
+        &[(1, 1)],
+    ),
+    (
+        "a copy of a copy",
+        &[
+            LIVE,
+            Does::Copies(1, 0),
+            Does::Copies(2, 1),
+            Does::Needs(2, State::Live, 1, 1),
+        ],
+        &[(1, 1)],
+    ),
+    (
+        "give",
+        &[LIVE, MOVE, Does::Needs(0, State::Moved, 1, 3)],
+        &[(1, 3)],
+    ),
     ("what is given isn't live", &[LIVE, MOVE, LEFT], &[]),
-    ("null is not given", &[NULL, MOVE, Does::Needs(0, State::Moved, 1, 3), Does::Needs(0, State::Null, 2, 6)], &[(2, 6)]),
-    ("what is freed stays so", &[LIVE, FREE, MOVE, Does::Needs(0, State::Moved, 1, 3), Does::Needs(0, State::Deleted, 2, 4)], &[(2, 4)]),
-    ("another place is given", &[LIVE, Does::Gives(1, State::Moved), LEFT], &[(1, 1)]),
-    ("test", &[EITHER, Does::Tests(0, &[State::Live]), Does::Needs(0, State::Null, 1, 6), Does::Needs(0, State::Live, 2, 1)], &[(2, 1)]),
-    ("another place is tested", &[EITHER, Does::Tests(1, &[State::Live]), Does::Needs(0, State::Null, 1, 6)], &[(1, 6)]),
-    ("behind a test of no state", &[Does::Tests(0, &[]), LIVE, LEFT], &[(1, 1)]),
-    ("rules of one place", &[EITHER, Does::Needs(0, State::Null, 3, 6), Does::Needs(0, State::Live, 3, 1)], &[(3, 1), (3, 6)]),
-    ("the place comes before the rule", &[EITHER, Does::Needs(0, State::Live, 4, 1), Does::Needs(0, State::Null, 3, 6)], &[(3, 6), (4, 1)]),
-    ("freed twice", &[LIVE, FREE, Does::Needs(0, State::Deleted, 8, 4), FREE, Does::Needs(0, State::Live, 9, 1)], &[(8, 4)]),
-    ("moved and then freed", &[LIVE, MOVE, Does::Needs(0, State::Moved, 5, 3), FREE], &[(5, 3)]),
-    ("left at the end", &[EITHER, Does::Needs(0, State::Live, 5, 1)], &[(5, 1)]),
-    ("null is followed", &[EITHER, Does::Needs(0, State::Null, 1, 6), LEFT], &[(1, 1), (1, 6)]),
+    (
+        "null is not given",
+        &[
+            NULL,
+            MOVE,
+            Does::Needs(0, State::Moved, 1, 3),
+            Does::Needs(0, State::Null, 2, 6),
+        ],
+        &[(2, 6)],
+    ),
+    (
+        "what is freed stays so",
+        &[
+            LIVE,
+            FREE,
+            MOVE,
+            Does::Needs(0, State::Moved, 1, 3),
+            Does::Needs(0, State::Deleted, 2, 4),
+        ],
+        &[(2, 4)],
+    ),
+    (
+        "another place is given",
+        &[LIVE, Does::Gives(1, State::Moved), LEFT],
+        &[(1, 1)],
+    ),
+    (
+        "test",
+        &[
+            EITHER,
+            Does::Tests(0, &[State::Live]),
+            Does::Needs(0, State::Null, 1, 6),
+            Does::Needs(0, State::Live, 2, 1),
+        ],
+        &[(2, 1)],
+    ),
+    (
+        "another place is tested",
+        &[
+            EITHER,
+            Does::Tests(1, &[State::Live]),
+            Does::Needs(0, State::Null, 1, 6),
+        ],
+        &[(1, 6)],
+    ),
+    (
+        "behind a test of no state",
+        &[Does::Tests(0, &[]), LIVE, LEFT],
+        &[(1, 1)],
+    ),
+    (
+        "rules of one place",
+        &[
+            EITHER,
+            Does::Needs(0, State::Null, 3, 6),
+            Does::Needs(0, State::Live, 3, 1),
+        ],
+        &[(3, 1), (3, 6)],
+    ),
+    (
+        "the place comes before the rule",
+        &[
+            EITHER,
+            Does::Needs(0, State::Live, 4, 1),
+            Does::Needs(0, State::Null, 3, 6),
+        ],
+        &[(3, 6), (4, 1)],
+    ),
+    (
+        "freed twice",
+        &[
+            LIVE,
+            FREE,
+            Does::Needs(0, State::Deleted, 8, 4),
+            FREE,
+            Does::Needs(0, State::Live, 9, 1),
+        ],
+        &[(8, 4)],
+    ),
+    (
+        "moved and then freed",
+        &[LIVE, MOVE, Does::Needs(0, State::Moved, 5, 3), FREE],
+        &[(5, 3)],
+    ),
+    (
+        "left at the end",
+        &[EITHER, Does::Needs(0, State::Live, 5, 1)],
+        &[(5, 1)],
+    ),
+    (
+        "null is followed",
+        &[EITHER, Does::Needs(0, State::Null, 1, 6), LEFT],
+        &[(1, 1), (1, 6)],
+    ),
 ];
 
 /// The number of points besides the start, the edges, and the findings.
-type Drawing = (&'static str, usize, &'static [(usize, Does, usize)], &'static [Found]);
+type Drawing = (
+    &'static str,
+    usize,
+    &'static [(usize, Does, usize)],
+    &'static [Found],
+);
 
 const DRAWINGS: [Drawing; 17] = [
-    ("a join, by its first way", 4, &[(0, LIVE, 1), (0, NULL, 2), (1, Does::Nothing, 3), (2, Does::Nothing, 3), (3, LEFT, 4)], &[(1, 1)]),
-    ("a join, by its second way", 4, &[(0, NULL, 1), (0, LIVE, 2), (1, Does::Nothing, 3), (2, Does::Nothing, 3), (3, LEFT, 4)], &[(1, 1)]),
-    ("a set on one way", 3, &[(0, LIVE, 1), (1, Does::Nothing, 2), (1, NULL, 2), (2, LEFT, 3), (2, Does::Needs(0, State::Null, 1, 6), 3)], &[(1, 1), (1, 6)]),
-    ("each edge of a point", 2, &[(0, LIVE, 1), (1, Does::Needs(0, State::Live, 3, 1), 2), (1, Does::Needs(0, State::Live, 1, 1), 2), (1, Does::Needs(0, State::Live, 2, 1), 2)], &[(1, 1), (2, 1), (3, 1)]),
-    ("one finding of two edges", 2, &[(0, LIVE, 1), (1, LEFT, 2), (1, LEFT, 2)], &[(1, 1)]),
-    ("nothing reaches it", 3, &[(0, Does::Nothing, 1), (2, LIVE, 3), (3, LEFT, 3)], &[]),
-    ("nothing reaches one way in", 3, &[(0, Does::Nothing, 1), (2, LIVE, 1), (1, LEFT, 3)], &[]),
-    ("a loop frees twice", 2, &[(0, LIVE, 1), (1, FREE, 2), (2, Does::Nothing, 1), (1, Does::Needs(0, State::Deleted, 7, 4), 2)], &[(7, 4)]),
-    ("no way back", 2, &[(0, LIVE, 1), (1, FREE, 2), (1, Does::Needs(0, State::Deleted, 7, 4), 2)], &[]),
-    ("a loop that sets again", 3, &[(0, LIVE, 1), (1, Does::Needs(0, State::Deleted, 1, 4), 2), (2, FREE, 3), (3, LIVE, 1)], &[]),
-    ("a loop from the start", 1, &[(0, LEFT, 1), (1, LIVE, 0)], &[(1, 1)]),
-    ("an edge to its own point", 1, &[(0, LIVE, 1), (1, FREE, 1), (1, Does::Needs(0, State::Deleted, 2, 4), 1)], &[(2, 4)]),
-    ("copies round a loop", 1, &[(0, LIVE, 1), (1, Does::Copies(1, 0), 1), (1, Does::Copies(2, 1), 1), (1, Does::Needs(2, State::Live, 1, 1), 1)], &[(1, 1)]),
-    ("an if that frees twice", 7, &[(0, EITHER, 1), (1, Does::Tests(0, &[State::Live]), 2), (1, Does::Tests(0, &[State::Null]), 6), (2, FREE, 3), (3, Does::Needs(0, State::Deleted, 8, 4), 4), (4, FREE, 5), (5, Does::Nothing, 6), (6, Does::Needs(0, State::Live, 10, 1), 7)], &[(8, 4)]),
-    ("an if that frees", 5, &[(0, EITHER, 1), (1, Does::Tests(0, &[State::Live]), 2), (1, Does::Tests(0, &[State::Null]), 4), (2, FREE, 3), (3, Does::Nothing, 4), (4, Does::Needs(0, State::Live, 10, 1), 5)], &[]),
-    ("a for that frees in its body", 9, &[(0, EITHER, 1), (1, Does::Tests(0, &[State::Null]), 2), (2, Does::Needs(0, State::Live, 5, 1), 9), (1, Does::Tests(0, &[State::Live]), 3), (3, Does::Nothing, 4), (4, Does::Nothing, 5), (4, Does::Nothing, 6), (5, Does::Needs(0, State::Deleted, 7, 4), 7), (7, FREE, 8), (8, Does::Nothing, 4), (6, Does::Needs(0, State::Live, 10, 1), 9)], &[(7, 4), (10, 1)]),
-    ("a body that is left at once", 9, &[(0, EITHER, 1), (1, Does::Tests(0, &[State::Null]), 2), (2, Does::Needs(0, State::Live, 5, 1), 9), (1, Does::Tests(0, &[State::Live]), 3), (3, Does::Nothing, 4), (4, Does::Nothing, 5), (4, Does::Nothing, 6), (5, Does::Needs(0, State::Deleted, 7, 4), 7), (7, FREE, 8), (8, Does::Nothing, 6), (6, Does::Needs(0, State::Live, 10, 1), 9)], &[(10, 1)]),
+    (
+        "a join, by its first way",
+        4,
+        &[
+            (0, LIVE, 1),
+            (0, NULL, 2),
+            (1, Does::Nothing, 3),
+            (2, Does::Nothing, 3),
+            (3, LEFT, 4),
+        ],
+        &[(1, 1)],
+    ),
+    (
+        "a join, by its second way",
+        4,
+        &[
+            (0, NULL, 1),
+            (0, LIVE, 2),
+            (1, Does::Nothing, 3),
+            (2, Does::Nothing, 3),
+            (3, LEFT, 4),
+        ],
+        &[(1, 1)],
+    ),
+    (
+        "a set on one way",
+        3,
+        &[
+            (0, LIVE, 1),
+            (1, Does::Nothing, 2),
+            (1, NULL, 2),
+            (2, LEFT, 3),
+            (2, Does::Needs(0, State::Null, 1, 6), 3),
+        ],
+        &[(1, 1), (1, 6)],
+    ),
+    (
+        "each edge of a point",
+        2,
+        &[
+            (0, LIVE, 1),
+            (1, Does::Needs(0, State::Live, 3, 1), 2),
+            (1, Does::Needs(0, State::Live, 1, 1), 2),
+            (1, Does::Needs(0, State::Live, 2, 1), 2),
+        ],
+        &[(1, 1), (2, 1), (3, 1)],
+    ),
+    (
+        "one finding of two edges",
+        2,
+        &[(0, LIVE, 1), (1, LEFT, 2), (1, LEFT, 2)],
+        &[(1, 1)],
+    ),
+    (
+        "nothing reaches it",
+        3,
+        &[(0, Does::Nothing, 1), (2, LIVE, 3), (3, LEFT, 3)],
+        &[],
+    ),
+    (
+        "nothing reaches one way in",
+        3,
+        &[(0, Does::Nothing, 1), (2, LIVE, 1), (1, LEFT, 3)],
+        &[],
+    ),
+    (
+        "a loop frees twice",
+        2,
+        &[
+            (0, LIVE, 1),
+            (1, FREE, 2),
+            (2, Does::Nothing, 1),
+            (1, Does::Needs(0, State::Deleted, 7, 4), 2),
+        ],
+        &[(7, 4)],
+    ),
+    (
+        "no way back",
+        2,
+        &[
+            (0, LIVE, 1),
+            (1, FREE, 2),
+            (1, Does::Needs(0, State::Deleted, 7, 4), 2),
+        ],
+        &[],
+    ),
+    (
+        "a loop that sets again",
+        3,
+        &[
+            (0, LIVE, 1),
+            (1, Does::Needs(0, State::Deleted, 1, 4), 2),
+            (2, FREE, 3),
+            (3, LIVE, 1),
+        ],
+        &[],
+    ),
+    (
+        "a loop from the start",
+        1,
+        &[(0, LEFT, 1), (1, LIVE, 0)],
+        &[(1, 1)],
+    ),
+    (
+        "an edge to its own point",
+        1,
+        &[
+            (0, LIVE, 1),
+            (1, FREE, 1),
+            (1, Does::Needs(0, State::Deleted, 2, 4), 1),
+        ],
+        &[(2, 4)],
+    ),
+    (
+        "copies round a loop",
+        1,
+        &[
+            (0, LIVE, 1),
+            (1, Does::Copies(1, 0), 1),
+            (1, Does::Copies(2, 1), 1),
+            (1, Does::Needs(2, State::Live, 1, 1), 1),
+        ],
+        &[(1, 1)],
+    ),
+    (
+        "an if that frees twice",
+        7,
+        &[
+            (0, EITHER, 1),
+            (1, Does::Tests(0, &[State::Live]), 2),
+            (1, Does::Tests(0, &[State::Null]), 6),
+            (2, FREE, 3),
+            (3, Does::Needs(0, State::Deleted, 8, 4), 4),
+            (4, FREE, 5),
+            (5, Does::Nothing, 6),
+            (6, Does::Needs(0, State::Live, 10, 1), 7),
+        ],
+        &[(8, 4)],
+    ),
+    (
+        "an if that frees",
+        5,
+        &[
+            (0, EITHER, 1),
+            (1, Does::Tests(0, &[State::Live]), 2),
+            (1, Does::Tests(0, &[State::Null]), 4),
+            (2, FREE, 3),
+            (3, Does::Nothing, 4),
+            (4, Does::Needs(0, State::Live, 10, 1), 5),
+        ],
+        &[],
+    ),
+    (
+        "a for that frees in its body",
+        9,
+        &[
+            (0, EITHER, 1),
+            (1, Does::Tests(0, &[State::Null]), 2),
+            (2, Does::Needs(0, State::Live, 5, 1), 9),
+            (1, Does::Tests(0, &[State::Live]), 3),
+            (3, Does::Nothing, 4),
+            (4, Does::Nothing, 5),
+            (4, Does::Nothing, 6),
+            (5, Does::Needs(0, State::Deleted, 7, 4), 7),
+            (7, FREE, 8),
+            (8, Does::Nothing, 4),
+            (6, Does::Needs(0, State::Live, 10, 1), 9),
+        ],
+        &[(7, 4), (10, 1)],
+    ),
+    (
+        "a body that is left at once",
+        9,
+        &[
+            (0, EITHER, 1),
+            (1, Does::Tests(0, &[State::Null]), 2),
+            (2, Does::Needs(0, State::Live, 5, 1), 9),
+            (1, Does::Tests(0, &[State::Live]), 3),
+            (3, Does::Nothing, 4),
+            (4, Does::Nothing, 5),
+            (4, Does::Nothing, 6),
+            (5, Does::Needs(0, State::Deleted, 7, 4), 7),
+            (7, FREE, 8),
+            (8, Does::Nothing, 6),
+            (6, Does::Needs(0, State::Live, 10, 1), 9),
+        ],
+        &[(10, 1)],
+    ),
 ];
 
 fn run<L: Ledger>(alloc: Global, graph: &FlowGraph, blank: Blank) -> Result<Findings, NoMemory>

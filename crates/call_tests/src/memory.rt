@@ -73,7 +73,12 @@ fn a_file_past_the_greatest_size_is_too_large(rt: HostRuntime) -> Result<(), Fai
 
 /// A room, the puts that are to fail with the bytes that they still take, which of four puts succeed, and what is
 /// left of them.
-type Puts = (usize, &'static [(u64, usize)], (bool, bool, bool, bool), &'static [u8]);
+type Puts = (
+    usize,
+    &'static [(u64, usize)],
+    (bool, bool, bool, bool),
+    &'static [u8],
+);
 
 /// The four puts are those of `ab`, of `cde`, of nothing and of `f`.
 const PUTS: [Puts; 11] = [
