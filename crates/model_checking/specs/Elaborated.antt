@@ -31,7 +31,7 @@ use Rattle.model_checking.specs.SpecifierTypes.{specifiers, typeof_type, typedef
 use Rattle.model_checking.specs.Structures.{struct_tag, struct_begun, member as next_member, struct_completed}
 use Rattle.model_checking.specs.Enumerations.{fixed_type, enum_tag, enum_begun, Enumeration, enumerator}
 use Rattle.model_checking.specs.Derivations.{Derivation, with_pointers}
-use Rattle.model_checking.specs.DeclaratorTypes.{declarator}
+use Rattle.model_checking.specs.DeclaratorTypes.{declarator, own_parameters_fault}
 use Rattle.model_checking.specs.ParameterDeclarations.{begin_parameters, parameter, function_derivation}
 use Rattle.model_checking.specs.Reading.{Ends, waits, both, with_both, as_operand, as_constant, asserted_of, count_of, type_name_place, first_or, named_first, declared_type, note_declared, or_type, given_type, an_array_of, is_alone, with_type, without_parameters, function_literal, single_given, element_step, steps_behind, item_given, braces_place}
 
@@ -155,7 +155,7 @@ abbrev mutual
   type_in u lone s (syntax.TypeofExpr word e place) =
       then_do (expr Unevaluated s e) (λ m s. gives (Some (typeof_type word (meaning_type m))) s)
   type_in u lone s (syntax.TypeofType word name place) =
-      then_do (type_name Unevaluated s name) (λ d s. gives (Some (typeof_type word (declared_type d))) s)
+      then_do (type_name Unevaluated s name) (λ d s. unless (own_parameters_fault d) (gives (Some (typeof_type word (declared_type d))) s))
 
   -- the type behind the `:` of an enumeration
   pub fixed_in : Use → State → (place : Place) → syntax.MaybeSpecs → Answer (Option Basic)
