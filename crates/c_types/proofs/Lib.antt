@@ -6,5 +6,3 @@ pub mod Kept
 pub mod Rows
 pub mod Laid
 pub mod Offsets
-pub mod RankLaws
-pub mod Placed

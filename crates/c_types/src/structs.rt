@@ -5,24 +5,21 @@ ghost use Rattle.std.specs.List.{list_all};
 ghost use Rattle.model_types.specs.Structures as m;
 ghost use Rattle.model_types.specs.Layout as l;
 ghost use Rattle.c_types.specs.Extents as s;
-ghost use Rattle.c_types.specs.Tables.{body_of, with_body, offset_kept, IsOffset};
+ghost use Rattle.c_types.specs.Tables.{body_of, with_body};
 
 use crate::extents::Extent;
 use crate::layout::structure_extent;
-use crate::member_offsets::Offsets;
 use crate::members::Members;
 use cake_base::{Bytes, NoMemory, Place};
 use model_types::types::StructId;
 use std::alloc::Global;
 use std::marker::Model;
 
-/// The members of a complete structure, with its size and alignment, and with their offsets, as many as
-/// there was room for.
+/// The members of a complete structure, with its size and alignment.
 #[derive(Drop)]
 pub struct Body {
     members: Members,
     extent: Extent,
-    offsets: Offsets,
 }
 
 /// A structure, with its body once it is complete.
@@ -68,17 +65,6 @@ fn body_at(entries: &[Entry], at: usize) -> Option<&Body>
     }
 }
 
-/// The offset that is kept for the member of a rank.
-fn offset_at(body: &Body, at: usize) -> Option<u64>
-    ensures { result ≡ offset_kept body.now.members body.now.offsets at }
-{
-    if at < body.members.count() as usize {
-        body.offsets.get(at)
-    } else {
-        None
-    }
-}
-
 /// Gives the entry of a rank its body.
 fn set_body(entries: &mut Vec<Entry>, at: usize, body: Body)
     requires { at < length entries.old.items }
@@ -121,7 +107,7 @@ impl Structs {
         Ok(id)
     }
 
-    /// Gives a structure its members, and keeps its size and alignment, and their offsets, beside them.
+    /// Gives a structure its members, and keeps its size and alignment beside them.
     pub fn complete(&mut self, id: StructId, members: Members)
         requires there { id.0 < length self.old }
         requires incomplete { m.members_of self.old id ≡ None }
@@ -130,18 +116,8 @@ impl Structs {
         requires complete { IsTrue (list_all (λ e. l.is_complete self.old e.ty) members) }
         ensures { self.new ≡ m.completed self.old id.0 members }
     {
-        let mut members = members;
-        let mut offsets = members.take_room();
-        if let Some(extent) = structure_extent(self, members.as_slice(), &mut offsets) {
-            set_body(
-                &mut self.entries,
-                id.0 as usize,
-                Body {
-                    members,
-                    extent,
-                    offsets,
-                },
-            );
+        if let Some(extent) = structure_extent(self, members.as_slice()) {
+            set_body(&mut self.entries, id.0 as usize, Body { members, extent });
         }
     }
 
@@ -174,21 +150,6 @@ impl Structs {
             Some(body) => Some(body.extent),
             None => None,
         }
-    }
-
-    /// The offset that is kept for the member of a rank of a structure that is there and complete.
-    pub(crate) fn kept_offset(&self, id: StructId, at: usize) -> Option<u64>
-        ensures { IsOffset self.now (m.members_of self.now id) at result }
-    {
-        match body_at(&self.entries, id.0 as usize) {
-            Some(body) => offset_at(body, at),
-            None => None,
-        }
-    }
-
-    /// What the table takes its memory from.
-    pub(crate) fn allocator(&self) -> Global {
-        *self.entries.allocator()
     }
 
     /// The number of structures.
@@ -269,19 +230,9 @@ fn copy_body(alloc: Global, body: &Option<Body>) -> Result<Option<Body>, NoMemor
 {
     match body {
         Some(body) => Ok(Some(Body {
-            members: copy_members(alloc, &body.members)?,
+            members: body.members.copy(alloc)?,
             extent: body.extent,
-            offsets: body.offsets.copy(alloc)?,
         })),
         None => Ok(None),
     }
-}
-
-/// An equal list, without room for offsets.
-fn copy_members(alloc: Global, members: &Members) -> Result<Members, NoMemory>
-    ensures { IfOk result (λ made. made ≡ members.now) }
-{
-    let mut made = members.copy(alloc)?;
-    let _ = made.take_room();
-    Ok(made)
 }
