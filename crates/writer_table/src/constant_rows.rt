@@ -5,9 +5,12 @@ use crate::rows::Init::{EveryByte, Letters, Text, Value};
 use crate::rows::Row::Object;
 use crate::rows::Type::Array;
 use crate::rows::{Expr, Row};
+use crate::texts::put_rows;
 use c89_tree::OutPrefix::Minus;
 use c89_tree::OutSuffix::{L, Plain, U, UL};
+use cake_base::{Bytes, NoMemory};
 use model_types::numbers::BinOp::Sub;
+use std::alloc::Global;
 
 const INT_GREATEST: Expr = Constant(2_147_483_647, Plain);
 
@@ -15,7 +18,7 @@ const LONG_GREATEST: Expr = Constant(9_223_372_036_854_775_807, L);
 /// `((void *)0)`
 const NULL: Expr = Cast(&TO_VOID, &ZERO);
 
-pub const CONSTANTS: &[Row] = &[
+const CONSTANTS: &[Row] = &[
     Object("int_zero", &INT, &Value(&ZERO)),
     Object("int_one", &INT, &Value(&ONE)),
     Object("int_greatest", &INT, &Value(&INT_GREATEST)),
@@ -110,7 +113,7 @@ pub const CONSTANTS: &[Row] = &[
     ),
 ];
 
-pub const STRINGS: &[Row] = &[
+const STRINGS: &[Row] = &[
     Object("no_byte", &Array(1, &CHAR), &Text(b"")),
     Object("one_byte", &Array(2, &CHAR), &Text(b"a")),
     Object("more_room", &Array(8, &CHAR), &Text(b"abc")),
@@ -129,3 +132,11 @@ pub const STRINGS: &[Row] = &[
     Object("string_of_509_bytes", &Array(510, &CHAR), &Letters(509)),
     Object("string_of_510_bytes", &Array(511, &CHAR), &Letters(510)),
 ];
+
+pub fn put_constants(alloc: Global, out: &mut Bytes) -> Result<(), NoMemory> {
+    put_rows(alloc, out, CONSTANTS)
+}
+
+pub fn put_strings(alloc: Global, out: &mut Bytes) -> Result<(), NoMemory> {
+    put_rows(alloc, out, STRINGS)
+}

@@ -4,13 +4,16 @@ use crate::rows::Expr::{Binary, Cast, Choice, Index, Logic, Unary};
 use crate::rows::Row::Returns;
 use crate::rows::Type::{ConstBased, ConstPointer, Pointer};
 use crate::rows::{Base, Declared, Expr, Row, Type};
+use crate::texts::put_rows;
 use c89_tree::OutPrefix::{AddressOf, Complement, Deref, Minus, Not};
 use c89_tree::OutSuffix;
+use cake_base::{Bytes, NoMemory};
 use model_types::numbers::BinOp::{
     Add, BitAnd, BitOr, BitXor, Div, Equal, Greater, GreaterEqual, Less, LessEqual, Mul, NotEqual,
     Rem, ShiftLeft, ShiftRight, Sub,
 };
 use model_types::operators::LogicOp::{And, Or};
+use std::alloc::Global;
 
 /// `int a`
 const OF_A: &[Declared] = &[Declared("a", &INT)];
@@ -36,7 +39,7 @@ const OF_P_Q: &[Declared] = &[Declared("p", &TO_INT), Declared("q", &TO_TO_INT)]
 /// `const int *const *`
 const TO_CONST_TO_CONST_INT: Type = Pointer(&ConstPointer(&ConstBased(Base::Int)));
 
-pub const OPERANDS: &[Row] = &[
+const OPERANDS: &[Row] = &[
     Returns("name_alone", &INT, OF_A, &A),
     Returns("constant_alone", &INT, &[], &ONE),
     Returns("index_of_pointer", &INT, OF_A_P, &Index(&P, &A)),
@@ -57,7 +60,7 @@ pub const OPERANDS: &[Row] = &[
     ),
 ];
 
-pub const UNARY_OPERATORS: &[Row] = &[
+const UNARY_OPERATORS: &[Row] = &[
     Returns("minus", &INT, OF_A, &Unary(Minus, &A)),
     Returns("complement", &INT, OF_A, &Unary(Complement, &A)),
     Returns("not", &INT, OF_A, &Unary(Not, &A)),
@@ -139,7 +142,7 @@ pub const UNARY_OPERATORS: &[Row] = &[
     ),
 ];
 
-pub const BINARY_OPERATORS: &[Row] = &[
+const BINARY_OPERATORS: &[Row] = &[
     Returns("product", &INT, OF_A_B, &Binary(Mul, &A, &B)),
     Returns("quotient", &INT, OF_A_B, &Binary(Div, &A, &B)),
     Returns("remainder_of", &INT, OF_A_B, &Binary(Rem, &A, &B)),
@@ -165,7 +168,7 @@ pub const BINARY_OPERATORS: &[Row] = &[
     Returns("logical_or", &INT, OF_A_B, &Logic(Or, &A, &B)),
 ];
 
-pub const OPERATORS_IN_OPERATORS: &[Row] = &[
+const OPERATORS_IN_OPERATORS: &[Row] = &[
     Returns(
         "product_of_sum",
         &INT,
@@ -248,7 +251,7 @@ pub const OPERATORS_IN_OPERATORS: &[Row] = &[
     Returns("equal_to_null", &INT, OF_P, &Binary(Equal, &P, &ZERO)),
 ];
 
-pub const CHOICES: &[Row] = &[
+const CHOICES: &[Row] = &[
     Returns("choice", &INT, OF_A_B_C, &Choice(&A, &B, &C)),
     Returns(
         "choice_as_condition",
@@ -281,7 +284,7 @@ pub const CHOICES: &[Row] = &[
     Returns("choice_with_null", &TO_INT, OF_A_P, &Choice(&A, &P, &ZERO)),
 ];
 
-pub const CASTS: &[Row] = &[
+const CASTS: &[Row] = &[
     Returns("cast", &CHAR, OF_A, &Cast(&CHAR, &A)),
     Returns(
         "cast_of_sum",
@@ -344,3 +347,27 @@ pub const CASTS: &[Row] = &[
         &Cast(&TO_VOID_OF_NOTHING, &F),
     ),
 ];
+
+pub fn put_operands(alloc: Global, out: &mut Bytes) -> Result<(), NoMemory> {
+    put_rows(alloc, out, OPERANDS)
+}
+
+pub fn put_unary_operators(alloc: Global, out: &mut Bytes) -> Result<(), NoMemory> {
+    put_rows(alloc, out, UNARY_OPERATORS)
+}
+
+pub fn put_binary_operators(alloc: Global, out: &mut Bytes) -> Result<(), NoMemory> {
+    put_rows(alloc, out, BINARY_OPERATORS)
+}
+
+pub fn put_operators_in_operators(alloc: Global, out: &mut Bytes) -> Result<(), NoMemory> {
+    put_rows(alloc, out, OPERATORS_IN_OPERATORS)
+}
+
+pub fn put_choices(alloc: Global, out: &mut Bytes) -> Result<(), NoMemory> {
+    put_rows(alloc, out, CHOICES)
+}
+
+pub fn put_casts(alloc: Global, out: &mut Bytes) -> Result<(), NoMemory> {
+    put_rows(alloc, out, CASTS)
+}

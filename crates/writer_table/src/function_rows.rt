@@ -9,9 +9,12 @@ use crate::rows::Stat::{Assign, Evaluate, Return};
 use crate::rows::Structure::Members;
 use crate::rows::Type::{Array, Based, Pointer};
 use crate::rows::{Base, Body, Declared, Expr, Function, Head, Program, Row, Type};
+use crate::texts::put_rows;
 use c89_tree::OutPrefix::{AddressOf, Deref, Minus};
 use c89_tree::OutStorage::{Extern, Plainly};
+use cake_base::{Bytes, NoMemory};
 use model_types::numbers::BinOp::Add;
+use std::alloc::Global;
 
 /// `struct caller *`
 const TO_CALLER: Type = Pointer(&Based(Base::Struct("caller")));
@@ -34,7 +37,7 @@ const RESULT: Expr = Name("result");
 
 const CHOSEN: Expr = Name("chosen");
 
-pub const CALLS: &[Row] = &[Whole(Program {
+const CALLS: &[Row] = &[Whole(Program {
     structures: &[Members(
         "caller",
         Declared("run", &TO_INT_OF_INT),
@@ -86,7 +89,7 @@ pub const CALLS: &[Row] = &[Whole(Program {
     )],
 })];
 
-pub const FUNCTIONS: &[Row] = &[
+const FUNCTIONS: &[Row] = &[
     Defines(Function(Head(External, "nothing", &VOID, &[]), Body(&[], &[]))),
     Returns("pointer_back", &TO_CHAR, &[Declared("p", &TO_CHAR)], &P),
     Defines(Function(
@@ -176,3 +179,11 @@ pub const FUNCTIONS: &[Row] = &[
         ),
     )),
 ];
+
+pub fn put_calls(alloc: Global, out: &mut Bytes) -> Result<(), NoMemory> {
+    put_rows(alloc, out, CALLS)
+}
+
+pub fn put_functions(alloc: Global, out: &mut Bytes) -> Result<(), NoMemory> {
+    put_rows(alloc, out, FUNCTIONS)
+}

@@ -9,10 +9,13 @@ use crate::rows::Stat::Return;
 use crate::rows::Structure::Members;
 use crate::rows::Type::{Array, Based, Pointer};
 use crate::rows::{Base, Body, Declared, Expr, Function, Head, Init, Program, Row, Type};
+use crate::texts::put_rows;
 use c89_tree::OutPrefix::{AddressOf, Minus};
 use c89_tree::OutStorage::{Extern, Plainly, Static};
 use c89_tree::OutSuffix::Plain;
+use cake_base::{Bytes, NoMemory};
 use model_types::numbers::BinOp::Add;
+use std::alloc::Global;
 
 const RING: Type = Based(Base::Struct("ring"));
 
@@ -38,7 +41,7 @@ const V7: Init = Value(&Constant(7, Plain));
 
 const V8: Init = Value(&Cast(&CHAR, &Constant(8, Plain)));
 
-pub const DECLARATIONS: &[Row] = &[
+const DECLARATIONS: &[Row] = &[
     Whole(Program {
         structures: &[],
         outers: &[],
@@ -212,3 +215,7 @@ const INITIAL_VALUES: Row = Whole(Program {
     ],
     functions: &[],
 });
+
+pub fn put_declarations(alloc: Global, out: &mut Bytes) -> Result<(), NoMemory> {
+    put_rows(alloc, out, DECLARATIONS)
+}

@@ -15,49 +15,34 @@ mod rows;
 mod statement_nodes;
 mod statement_rows;
 mod structure_rows;
+mod texts;
 mod type_nodes;
 mod type_rows;
 
-use crate::program_nodes::program_node;
-use crate::rows::Row;
-use c89_writer::write;
 use cake_base::{Bytes, NoMemory};
 use std::alloc::Global;
 use std::io;
 use std::io::{ErrorKind, Write};
 
-fn push_program(alloc: Global, out: &mut Bytes, row: &Row) -> Result<(), NoMemory> {
-    let unit = program_node(alloc, row)?;
-    let text = write(alloc, &unit)?;
-    out.push(text.as_slice())
-}
-
-fn push_rows(alloc: Global, out: &mut Bytes, rows: &[Row]) -> Result<(), NoMemory> {
-    for row in rows {
-        push_program(alloc, out, row)?;
-    }
-    Ok(())
-}
-
 fn table_text(alloc: Global) -> Result<Bytes, NoMemory> {
     let mut out = Bytes::new(alloc);
-    push_rows(alloc, &mut out, type_rows::TYPES)?;
-    push_rows(alloc, &mut out, type_rows::POINTERS)?;
-    push_rows(alloc, &mut out, type_rows::ARRAYS)?;
-    push_rows(alloc, &mut out, type_rows::FUNCTIONS)?;
-    push_rows(alloc, &mut out, constant_rows::CONSTANTS)?;
-    push_rows(alloc, &mut out, constant_rows::STRINGS)?;
-    push_rows(alloc, &mut out, expression_rows::OPERANDS)?;
-    push_rows(alloc, &mut out, expression_rows::UNARY_OPERATORS)?;
-    push_rows(alloc, &mut out, expression_rows::BINARY_OPERATORS)?;
-    push_rows(alloc, &mut out, expression_rows::OPERATORS_IN_OPERATORS)?;
-    push_rows(alloc, &mut out, expression_rows::CHOICES)?;
-    push_rows(alloc, &mut out, expression_rows::CASTS)?;
-    push_rows(alloc, &mut out, structure_rows::STRUCTURES)?;
-    push_rows(alloc, &mut out, function_rows::CALLS)?;
-    push_rows(alloc, &mut out, initial_rows::DECLARATIONS)?;
-    push_rows(alloc, &mut out, function_rows::FUNCTIONS)?;
-    push_rows(alloc, &mut out, statement_rows::STATEMENTS)?;
+    type_rows::put_types(alloc, &mut out)?;
+    type_rows::put_pointers(alloc, &mut out)?;
+    type_rows::put_arrays(alloc, &mut out)?;
+    type_rows::put_functions(alloc, &mut out)?;
+    constant_rows::put_constants(alloc, &mut out)?;
+    constant_rows::put_strings(alloc, &mut out)?;
+    expression_rows::put_operands(alloc, &mut out)?;
+    expression_rows::put_unary_operators(alloc, &mut out)?;
+    expression_rows::put_binary_operators(alloc, &mut out)?;
+    expression_rows::put_operators_in_operators(alloc, &mut out)?;
+    expression_rows::put_choices(alloc, &mut out)?;
+    expression_rows::put_casts(alloc, &mut out)?;
+    structure_rows::put_structures(alloc, &mut out)?;
+    function_rows::put_calls(alloc, &mut out)?;
+    initial_rows::put_declarations(alloc, &mut out)?;
+    function_rows::put_functions(alloc, &mut out)?;
+    statement_rows::put_statements(alloc, &mut out)?;
     Ok(out)
 }
 

@@ -10,18 +10,21 @@ use crate::rows::Stat::{
     Switch,
 };
 use crate::rows::{Body, Declared, Expr, Function, Head, Item, Program, Row, Stat};
+use crate::texts::put_rows;
 use c89_tree::OutPrefix::{Deref, Minus, Not};
 use c89_tree::OutStorage::Extern;
 use c89_tree::OutSuffix::{L, Plain};
+use cake_base::{Bytes, NoMemory};
 use model_types::numbers::BinOp::{Add, Equal, Greater, Less, Sub};
 use model_types::operators::LogicOp::And;
+use std::alloc::Global;
 
 /// `(*p)`
 const AT_P: Expr = Unary(Deref, &P);
 /// `int b`
 const B_ALONE: &[Declared] = &[Declared("b", &INT)];
 
-pub const STATEMENTS: &[Row] = &[
+const STATEMENTS: &[Row] = &[
     Defines(Function(
         Head(
             External,
@@ -253,3 +256,7 @@ const INNER_SWITCH: &[Stat] = &[
     Switch(&A, &[Item(&[Case(&Constant(3, Plain))], Break)]),
     Break,
 ];
+
+pub fn put_statements(alloc: Global, out: &mut Bytes) -> Result<(), NoMemory> {
+    put_rows(alloc, out, STATEMENTS)
+}

@@ -8,8 +8,11 @@ use crate::rows::Stat::{Assign, Return};
 use crate::rows::Structure::{Members, Tag};
 use crate::rows::Type::{Array, Based, ConstBased, Pointer};
 use crate::rows::{Base, Body, Declared, Expr, Function, Head, Program, Row, Type};
+use crate::texts::put_rows;
 use c89_tree::OutPrefix::{AddressOf, Deref, Minus};
 use c89_tree::OutStorage::Extern;
+use cake_base::{Bytes, NoMemory};
+use std::alloc::Global;
 
 const ONE_MEMBER: Type = Based(Base::Struct("one_member"));
 
@@ -41,7 +44,7 @@ const NEXT_OF_N: Expr = Arrow(&N, "next");
 /// `(n->value ? (*n) : (*n->next))`
 const THIS_OR_NEXT: Expr = Choice(&VALUE_OF_N, &NODE_AT_N, &Unary(Deref, &NEXT_OF_N));
 
-pub const STRUCTURES: &[Row] = &[
+const STRUCTURES: &[Row] = &[
     Whole(Program {
         structures: &[
             Tag("opaque"),
@@ -197,3 +200,7 @@ const MEMBERS: Row = Whole(Program {
         ),
     ],
 });
+
+pub fn put_structures(alloc: Global, out: &mut Bytes) -> Result<(), NoMemory> {
+    put_rows(alloc, out, STRUCTURES)
+}

@@ -5,6 +5,9 @@ use crate::rows::Type::{
     Array, ArrayWithoutLength, ConstBased, ConstPointer, Function, Pointer, Variadic,
 };
 use crate::rows::{Base, Row, Type};
+use crate::texts::put_rows;
+use cake_base::{Bytes, NoMemory};
+use std::alloc::Global;
 
 /// `int (*const *)(void)`
 const TO_CONST_TO_INT_OF_NOTHING: Type = Pointer(&ConstPointer(&INT_OF_NOTHING));
@@ -24,7 +27,7 @@ const TO_TWO_TO_THREE_INTS: Type = Pointer(&Array(2, &TO_THREE_INTS));
 /// `void (*)(int)`
 const TO_VOID_OF_INT: Type = Pointer(&Function(&VOID, &[INT]));
 
-pub const TYPES: &[Row] = &[
+const TYPES: &[Row] = &[
     Outside("a_char", &CHAR),
     Outside("a_signed_char", &SIGNED_CHAR),
     Outside("an_unsigned_char", &UNSIGNED_CHAR),
@@ -36,7 +39,7 @@ pub const TYPES: &[Row] = &[
     Outside("an_unsigned_long", &UNSIGNED_LONG),
 ];
 
-pub const POINTERS: &[Row] = &[
+const POINTERS: &[Row] = &[
     Outside("a_pointer", &TO_INT),
     Outside("pointer_to_void", &TO_VOID),
     Outside("pointer_to_pointer", &TO_TO_INT),
@@ -57,7 +60,7 @@ pub const POINTERS: &[Row] = &[
     ),
 ];
 
-pub const ARRAYS: &[Row] = &[
+const ARRAYS: &[Row] = &[
     Outside("an_array", &THREE_INTS),
     Outside("an_array_without_length", &ArrayWithoutLength(&INT)),
     Outside("the_largest_array", &Array(1_073_741_824, &CHAR)),
@@ -83,7 +86,7 @@ pub const ARRAYS: &[Row] = &[
     ),
 ];
 
-pub const FUNCTIONS: &[Row] = &[
+const FUNCTIONS: &[Row] = &[
     Outside("no_parameter", &INT_OF_NOTHING),
     Outside("no_result", &Function(&VOID, &[INT])),
     Outside(
@@ -170,3 +173,19 @@ pub const FUNCTIONS: &[Row] = &[
         ),
     ),
 ];
+
+pub fn put_types(alloc: Global, out: &mut Bytes) -> Result<(), NoMemory> {
+    put_rows(alloc, out, TYPES)
+}
+
+pub fn put_pointers(alloc: Global, out: &mut Bytes) -> Result<(), NoMemory> {
+    put_rows(alloc, out, POINTERS)
+}
+
+pub fn put_arrays(alloc: Global, out: &mut Bytes) -> Result<(), NoMemory> {
+    put_rows(alloc, out, ARRAYS)
+}
+
+pub fn put_functions(alloc: Global, out: &mut Bytes) -> Result<(), NoMemory> {
+    put_rows(alloc, out, FUNCTIONS)
+}
