@@ -44,7 +44,7 @@ is_initialized None = false
 is_initialized (Some d) = is_some d.initialized
 
 abbrev pub initializes_again : Setting → Declaration → Scopes → Bool
-initializes_again g d s = gives_value g.ending && is_initialized (earlier d s)
+initializes_again g d s = gives_value g.ending && has_linkage d && is_initialized (earlier d s)
 
 -- ---- C47: `main` is `int (void)` or `int (int, char **)`
 
