@@ -45,7 +45,7 @@ initialized r u b s (syntax.an_initializer i) = with_both (initializer r u s i) 
 
 abbrev declared_as : Ends → Context → Use → Specified → State → syntax.InitDeclarator → Answer (List unit.Stat)
 declared_as r c u given s (syntax.init_declarator d i) =
-    then_do (bind u c (uses_itself d i) given d i s (declarator given (named_first d) d s (derivations u s d))) (λ b s.
+    then_do (bind u c (uses_itself d i) given (named_first d) d i s (declarator given (named_first d) d s (derivations u s d))) (λ b s.
     and_then (r s) (λ s. initialized r u b s i))
 
 abbrev each_declared : Ends → Context → Use → Specified → State → syntax.InitDeclarators → Answer (List unit.Stat)
