@@ -58,9 +58,9 @@ beside_if_any None other = None
 beside_if_any (Some fault) other = first_of_faults other (Some fault)
 
 -- before the initializer is read: C31, and then no type is known, so the rules at the name beside it; `specs_place` is the
--- first token of the specifiers
+-- first token of the specifiers. That nothing is declared is asked beside the specifiers
 abbrev pub inference_fault : Context → Specified → (uses_itself : Bool) → (specs_place : Place) → syntax.InitDeclarators → State → Option Fault
-inference_fault context given uses_itself specs_place syntax.no_init_declarators s = fault_if true specs_place 31
+inference_fault context given uses_itself specs_place syntax.no_init_declarators s = None
 inference_fault context given uses_itself specs_place (syntax.more_init_declarators (syntax.init_declarator d initializer) others) s =
     beside_if_any (plain_fault uses_itself (unwrap_or (declarator_first d) specs_place) d initializer others)
     (name_fault_of context given s d initializer)
