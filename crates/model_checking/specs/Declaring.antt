@@ -1,6 +1,6 @@
 -- One declarator of a declaration, or of the definition of a function, bound to what it declares (ISO/IEC 9899:2024, 6.7,
 -- 6.9.2, 6.9.3): before its initializer is read.
-use Rattle.std.specs.Prelude.{ℕ, Bool, true, false, ◌&&◌, ◌||◌, not, List, [], ◌∷◌, ◌++◌, Option, Some, None}
+use Rattle.std.specs.Prelude.{ℕ, Bool, true, false, ◌&&◌, ◌||◌, not, List, [], ◌∷◌, ◌++◌, Option, Some, None, is_some}
 use Rattle.cake_base.specs.declared.places.Place.{Place}
 use Rattle.cake_base.specs.declared.rules.Fault.{Fault}
 use Rattle.model_types.specs.Types as t
@@ -122,10 +122,11 @@ bound_if u g uses_itself d x name type s = breaks x.first 31
 
 -- ---- a declarator, whose answer is what it declares; the state is the one before it
 
--- C22 of a function with an initializer and C32, as far as they need no type
-abbrev pub untyped_faults : (first : Place) → Kind → Setting → (uses_itself : Bool) → Option Fault
-untyped_faults first kind g uses_itself =
-    first_of_faults (fault_if (is_initialized_function kind g.ending) first 22) (fault_if (lacks_constant kind g uses_itself) first 32)
+-- C22 of a function with an initializer, C31 of one whose type is to be inferred, and C32, as far as they need no type
+abbrev pub untyped_faults : (first : Place) → (infers : Bool) → Kind → Setting → (uses_itself : Bool) → Option Fault
+untyped_faults first infers kind g uses_itself =
+    first_of_faults (fault_if (is_initialized_function kind g.ending) first 22)
+    (first_of_faults (fault_if infers first 31) (fault_if (lacks_constant kind g uses_itself) first 32))
 
 abbrev pub untyped_kind : Setting → Specified → syntax.Declarator → Kind
 untyped_kind g given d = kind_of g.storage (declares_function given.type d)
@@ -133,7 +134,7 @@ untyped_kind g given d = kind_of g.storage (declares_function given.type d)
 abbrev pub bind_in : Use → Setting → (uses_itself : Bool) → Specified → (first : Place) → syntax.Declarator → (before : State) → Answer Declared → Answer Bound
 bind_in u g uses_itself given first d before answer =
     with_fault (rule_at (untyped_name_rule g given.type d before.scopes) (declarator_name d))
-    (with_fault (untyped_faults first (untyped_kind g given d) g uses_itself)
+    (with_fault (untyped_faults first (not (is_some given.type)) (untyped_kind g given d) g uses_itself)
     (then_do answer (λ x s. bound_if u g uses_itself d x (declarator_name d) x.type s)))
 
 abbrev pub ending_of : syntax.MaybeInitializer → Ending
