@@ -37,6 +37,7 @@ pub mod DeclarationDeclarators1
 pub mod DeclarationDeclarators2
 pub mod DeclarationDeclarators3
 pub mod DeclarationOrder
+pub mod DeclarationOrder2
 pub mod ExpressionUnitsOperators
 pub mod ExpressionUnitsPointers
 pub mod ExpressionUnitsCalls

@@ -11,6 +11,7 @@ pub mod declaration_names1;
 pub mod declaration_names2;
 pub mod declaration_names3;
 pub mod declaration_order;
+pub mod declaration_order2;
 pub mod declaration_specifiers1;
 pub mod declaration_specifiers2;
 pub mod declaration_specifiers3;

@@ -9,7 +9,8 @@ use Rattle.model_checking.specs.State.{Answer}
 use Rattle.model_checking.specs.Parts.{Specified}
 use Rattle.model_checking.specs.FaultsBeside.{fault_at, with_fault}
 use Rattle.model_checking.specs.DeclarationContexts.{Context, is_inner}
-use Rattle.model_checking.specs.Words.{Word, a_storage_word, words_of, is_typedef_word, is_extern_word, place_of_first}
+use Rattle.model_checking.specs.Words.{Word, a_storage_word, words_of, is_typedef_word, is_extern_word, is_auto_word, has_type_specifier, place_of_first}
+use Rattle.model_checking.specs.SpecifierWords.{first_place}
 use Rattle.model_checking.specs.SpecifierTypes.{specifiers}
 use Rattle.model_checking.specs.DeclaredNames.{declares_function}
 
@@ -36,7 +37,14 @@ abbrev pub type_given : Answer (Option CType) → Option CType
 type_given (Ok both) = both.made
 type_given (Err fault) = None
 
+-- C31 at the first of the list: a type is to be inferred and nothing is declared
+abbrev pub empty_inference_fault : List Word → syntax.InitDeclarators → Option Fault
+empty_inference_fault words syntax.no_init_declarators =
+    if list_any is_auto_word words && not (has_type_specifier words) then fault_at (first_place words) 31 else None
+empty_inference_fault words (syntax.more_init_declarators first others) = None
+
 -- the answer is what struct, enum, tag, typedef name or `typeof` gave, as for `specifiers`
 abbrev pub declaration_specifiers : Context → syntax.Specs → syntax.InitDeclarators → Answer (Option CType) → Answer Specified
 declaration_specifiers context specs declarators parts =
-    with_fault (block_function_fault context (words_of specs) (type_given parts) declarators) (specifiers context specs parts)
+    with_fault (empty_inference_fault (words_of specs) declarators)
+    (with_fault (block_function_fault context (words_of specs) (type_given parts) declarators) (specifiers context specs parts))

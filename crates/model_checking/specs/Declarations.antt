@@ -8,13 +8,14 @@ use Rattle.model_core.specs.CoreTypes.{type_of}
 use Rattle.model_core.specs.Core as unit
 use Rattle.model_checking.specs.State.{Use, State, Answer, gives, then_do, and_then, unless}
 use Rattle.model_checking.specs.Parts.{Specified}
+use Rattle.model_checking.specs.FaultsBeside.{with_fault}
 use Rattle.model_checking.specs.DeclarationContexts.{Context}
 use Rattle.model_checking.specs.DeclarationSpecifiers.{declaration_specifiers}
 use Rattle.model_checking.specs.Tags.{is_lone}
 use Rattle.model_checking.specs.DeclaratorNames.{declarator_name}
 use Rattle.model_checking.specs.DeclaratorTypes.{declarator}
 use Rattle.model_checking.specs.Declaring.{Bound, bind}
-use Rattle.model_checking.specs.Inference.{inference_fault, bind_inferred}
+use Rattle.model_checking.specs.Inference.{inference_fault, name_fault, bind_inferred}
 use Rattle.model_checking.specs.Settling.{with_initializer}
 use Rattle.model_checking.specs.OwnName.{names_itself}
 use Rattle.model_checking.specs.Reading.{Ends, with_both, as_operand, ended_value, named_first, specs_place}
@@ -45,7 +46,7 @@ initialized r u b s (syntax.an_initializer i) = with_both (initializer r u s i) 
 
 abbrev declared_as : Ends → Context → Use → Specified → State → syntax.InitDeclarator → Answer (List unit.Stat)
 declared_as r c u given s (syntax.init_declarator d i) =
-    then_do (bind u c (uses_itself d i) given d i s (declarator given (named_first d) d s (derivations u s d))) (λ b s.
+    then_do (bind u c (uses_itself d i) given (named_first d) d i s (declarator given (named_first d) d s (derivations u s d))) (λ b s.
     and_then (r s) (λ s. initialized r u b s i))
 
 abbrev each_declared : Ends → Context → Use → Specified → State → syntax.InitDeclarators → Answer (List unit.Stat)
@@ -72,7 +73,8 @@ uses_itself_first (syntax.more_init_declarators (syntax.init_declarator d i) oth
 abbrev declared_by : Ends → Context → Use → syntax.Specs → Specified → State → (has_type : Bool) → syntax.InitDeclarators → Answer (List unit.Stat)
 declared_by r c u specs given s true ds = each_declared r c u given s ds
 declared_by r c u specs given s false ds =
-    unless (inference_fault c given (uses_itself_first ds) (specs_place specs) ds s) (inferred r c u specs given s ds)
+    unless (inference_fault c given (uses_itself_first ds) (specs_place specs) ds s)
+    (with_fault (name_fault c given ds s) (inferred r c u specs given s ds))
 
 abbrev pub declaration : Ends → Context → Use → State → syntax.Declaration → Answer (List unit.Stat)
 declaration r c u s (syntax.SimpleDeclaration specs ds) =

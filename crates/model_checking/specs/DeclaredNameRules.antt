@@ -8,10 +8,10 @@ use Rattle.model_types.specs.Texts.{same_text}
 use Rattle.model_types.specs.Types.{CType, Integer, Function, Form, Types, no_types, more_types, form_of_type}
 use Rattle.model_types.specs.Structures.{Structure}
 use Rattle.model_types.specs.Layout.{is_complete}
-use Rattle.model_types.specs.Compatible.{compatible}
 use Rattle.model_core.specs.CoreTypes.{plain, pointer_to, int_type, is_void}
 use Rattle.model_scopes.specs.Declarations.{Declaration, has_linkage}
 use Rattle.model_scopes.specs.Scopes.{Declared, Scopes}
+use Rattle.model_scopes.specs.SameTypedefs.{same_typedef}
 use Rattle.model_scopes.specs.DeclarationRules.{broken_rule, earlier, standing, has_prefix, clashes_with, links_otherwise, is_otherwise, built_in_type}
 use Rattle.model_grammar.specs.declared.syntax.Name.{Name}
 use Rattle.model_grammar.specs.SyntaxForms as syntax
@@ -44,17 +44,17 @@ is_initialized None = false
 is_initialized (Some d) = is_some d.initialized
 
 abbrev pub initializes_again : Setting → Declaration → Scopes → Bool
-initializes_again g d s = gives_value g.ending && is_initialized (earlier d s)
+initializes_again g d s = gives_value g.ending && has_linkage d && is_initialized (earlier d s)
 
--- ---- C47: `main` is `int (void)` or `int (int, char **)`
+-- ---- C47: `main` is `int (void)` or `int (int, char **)`, in every part; an enumeration isn't int
 
 abbrev pub main_type : Types → CType
 main_type parameters = plain (Function int_type parameters false)
 
 abbrev pub is_type_of_main : CType → Bool
 is_type_of_main type =
-    compatible type (main_type no_types)
-    || compatible type (main_type (more_types int_type (more_types (pointer_to (pointer_to (plain (Integer Char)))) no_types)))
+    same_typedef type (main_type no_types)
+    || same_typedef type (main_type (more_types int_type (more_types (pointer_to (pointer_to (plain (Integer Char)))) no_types)))
 
 abbrev pub is_bad_main : Declaration → Bool
 is_bad_main d = same_text d.name (codes "main") && has_linkage d && not (is_type_of_main d.ty)

@@ -1,6 +1,6 @@
 -- One declarator of a declaration, or of the definition of a function, bound to what it declares (ISO/IEC 9899:2024, 6.7,
 -- 6.9.2, 6.9.3): before its initializer is read.
-use Rattle.std.specs.Prelude.{ℕ, Bool, true, false, ◌&&◌, ◌||◌, not, List, [], ◌∷◌, ◌++◌, Option, Some, None}
+use Rattle.std.specs.Prelude.{ℕ, Bool, true, false, ◌&&◌, ◌||◌, not, List, [], ◌∷◌, ◌++◌, Option, Some, None, is_some}
 use Rattle.cake_base.specs.declared.places.Place.{Place}
 use Rattle.cake_base.specs.declared.rules.Fault.{Fault}
 use Rattle.model_types.specs.Types as t
@@ -20,7 +20,7 @@ use Rattle.model_checking.specs.FaultsBeside.{first_of_faults, fault_if, with_fa
 use Rattle.model_checking.specs.DeclarationContexts.{Context, of_definition}
 use Rattle.model_checking.specs.DeclaratorNames.{declarator_name, rule_at}
 use Rattle.model_checking.specs.DeclaratorTypes.{own_parameters_fault}
-use Rattle.model_checking.specs.DeclaredNames.{Setting, Ending, no_value, an_initializer, a_body, gives_value, is_body, declaration}
+use Rattle.model_checking.specs.DeclaredNames.{Setting, Ending, no_value, an_initializer, a_body, gives_value, is_body, kind_of, declaration, declares_function}
 use Rattle.model_checking.specs.DeclaredNameRules.{typed_name_rule, untyped_name_rule, body_faults, result_fault}
 
 -- what a declarator has bound: its declaration with its id, its first token, whether it has `constexpr`, and what is
@@ -39,10 +39,15 @@ abbrev pub awaits_length : t.Form → Ending → Bool
 awaits_length (t.Array element None) ending = gives_value ending
 awaits_length form ending = false
 
+-- a function has no initializer
+abbrev pub is_initialized_function : Kind → Ending → Bool
+is_initialized_function Function ending = gives_value ending && not (is_body ending)
+is_initialized_function _ ending = false
+
 -- C22: an object that is defined is complete; a function has no initializer
 abbrev pub wants_complete : List Structure → Kind → Setting → Declaration → Bool
 wants_complete structs Object g d = d.defines && not (is_complete structs d.ty) && not (awaits_length (form_of_type d.ty) g.ending)
-wants_complete structs Function g d = gives_value g.ending && not (is_body g.ending)
+wants_complete structs Function g d = is_initialized_function Function g.ending
 wants_complete structs TypeName g d = false
 wants_complete structs Enumerator g d = false
 wants_complete structs Tag g d = false
@@ -117,24 +122,34 @@ bound_if u g uses_itself d x name type s = breaks x.first 31
 
 -- ---- a declarator, whose answer is what it declares; the state is the one before it
 
-abbrev pub bind_in : Use → Setting → (uses_itself : Bool) → Specified → syntax.Declarator → (before : State) → Answer Declared → Answer Bound
-bind_in u g uses_itself given d before answer =
+-- C22 of a function with an initializer, C31 of one whose type is to be inferred, and C32, as far as they need no type
+abbrev pub untyped_faults : (first : Place) → (infers : Bool) → Kind → Setting → (uses_itself : Bool) → Option Fault
+untyped_faults first infers kind g uses_itself =
+    first_of_faults (fault_if (is_initialized_function kind g.ending) first 22)
+    (first_of_faults (fault_if infers first 31) (fault_if (lacks_constant kind g uses_itself) first 32))
+
+abbrev pub untyped_kind : Setting → Specified → syntax.Declarator → Kind
+untyped_kind g given d = kind_of g.storage (declares_function given.type d)
+
+abbrev pub bind_in : Use → Setting → (uses_itself : Bool) → Specified → (first : Place) → syntax.Declarator → (before : State) → Answer Declared → Answer Bound
+bind_in u g uses_itself given first d before answer =
     with_fault (rule_at (untyped_name_rule g given.type d before.scopes) (declarator_name d))
-    (then_do answer (λ x s. bound_if u g uses_itself d x (declarator_name d) x.type s))
+    (with_fault (untyped_faults first (not (is_some given.type)) (untyped_kind g given d) g uses_itself)
+    (then_do answer (λ x s. bound_if u g uses_itself d x (declarator_name d) x.type s)))
 
 abbrev pub ending_of : syntax.MaybeInitializer → Ending
 ending_of syntax.no_initializer = no_value
 ending_of (syntax.an_initializer initializer) = an_initializer
 
 -- of a declaration; `uses_itself` says that the initializer names what is declared
-abbrev pub bind : Use → Context → (uses_itself : Bool) → Specified → syntax.Declarator → syntax.MaybeInitializer → (before : State) → Answer Declared → Answer Bound
-bind u context uses_itself given d initializer before answer =
-    bind_in u (record { context = context; storage = given.storage; ending = ending_of initializer }) uses_itself given d before answer
+abbrev pub bind : Use → Context → (uses_itself : Bool) → Specified → (first : Place) → syntax.Declarator → syntax.MaybeInitializer → (before : State) → Answer Declared → Answer Bound
+bind u context uses_itself given first d initializer before answer =
+    bind_in u (record { context = context; storage = given.storage; ending = ending_of initializer }) uses_itself given first d before answer
 
 -- of the definition of a function
-abbrev pub bind_function : Use → Specified → syntax.Declarator → (before : State) → Answer Declared → Answer Bound
-bind_function u given d before answer =
-    bind_in u (record { context = of_definition; storage = given.storage; ending = a_body }) false given d before answer
+abbrev pub bind_function : Use → Specified → (first : Place) → syntax.Declarator → (before : State) → Answer Declared → Answer Bound
+bind_function u given first d before answer =
+    bind_in u (record { context = of_definition; storage = given.storage; ending = a_body }) false given first d before answer
 
 -- ---- a function literal
 

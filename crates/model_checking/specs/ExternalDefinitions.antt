@@ -35,7 +35,7 @@ head_of b = record {
 abbrev function_bound : Ends → State → syntax.Specs → syntax.Declarator → Answer Bound
 function_bound r s specs d =
     then_do (ended r (specifiers of_definition specs (types_in Evaluated false s specs))) (λ given s.
-    ended r (bind_function Evaluated given d s (declarator given (named_first d) d s (derivations Evaluated s d))))
+    ended r (bind_function Evaluated given (named_first d) d s (declarator given (named_first d) d s (derivations Evaluated s d))))
 
 abbrev pub external : Ends → State → syntax.External → Reached
 external r s (syntax.FunctionDefinition specs d body) =

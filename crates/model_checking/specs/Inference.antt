@@ -40,18 +40,30 @@ may_infer d initializer others = if is_plain_name d then (if is_plain_value init
 abbrev pub setting_in : Context → Specified → syntax.MaybeInitializer → Setting
 setting_in context given initializer = record { context = context; storage = given.storage; ending = ending_of initializer }
 
--- the rules at the name that need no type, and C31 at the first token of the declarator, also where its initializer names
--- what it declares
-abbrev pub first_fault_of : Context → Specified → (uses_itself : Bool) → State → (first : Place) → syntax.Declarator → syntax.MaybeInitializer → (others : syntax.InitDeclarators) → Option Fault
-first_fault_of context given uses_itself s first d initializer others =
-    first_of_faults (rule_at (untyped_name_rule (setting_in context given initializer) None d s.scopes) (declarator_name d))
-    (fault_if (if uses_itself then true else not (may_infer d initializer others)) first 31)
+-- the rules at the name that need no type
+abbrev pub name_fault_of : Context → Specified → State → syntax.Declarator → syntax.MaybeInitializer → Option Fault
+name_fault_of context given s d initializer =
+    rule_at (untyped_name_rule (setting_in context given initializer) None d s.scopes) (declarator_name d)
 
--- before the initializer is read; `specs_place` is the first token of the specifiers
+abbrev pub name_fault : Context → Specified → syntax.InitDeclarators → State → Option Fault
+name_fault context given syntax.no_init_declarators s = None
+name_fault context given (syntax.more_init_declarators (syntax.init_declarator d initializer) others) s = name_fault_of context given s d initializer
+
+-- C31 at the first token of the declarator, also where its initializer names what it declares
+abbrev pub plain_fault : (uses_itself : Bool) → (first : Place) → syntax.Declarator → syntax.MaybeInitializer → (others : syntax.InitDeclarators) → Option Fault
+plain_fault uses_itself first d initializer others = fault_if (if uses_itself then true else not (may_infer d initializer others)) first 31
+
+abbrev beside_if_any : Option Fault → Option Fault → Option Fault
+beside_if_any None other = None
+beside_if_any (Some fault) other = first_of_faults other (Some fault)
+
+-- before the initializer is read: C31, and then no type is known, so the rules at the name beside it; `specs_place` is the
+-- first token of the specifiers. That nothing is declared is asked beside the specifiers
 abbrev pub inference_fault : Context → Specified → (uses_itself : Bool) → (specs_place : Place) → syntax.InitDeclarators → State → Option Fault
-inference_fault context given uses_itself specs_place syntax.no_init_declarators s = fault_if true specs_place 31
+inference_fault context given uses_itself specs_place syntax.no_init_declarators s = None
 inference_fault context given uses_itself specs_place (syntax.more_init_declarators (syntax.init_declarator d initializer) others) s =
-    first_fault_of context given uses_itself s (unwrap_or (declarator_first d) specs_place) d initializer others
+    beside_if_any (plain_fault uses_itself (unwrap_or (declarator_first d) specs_place) d initializer others)
+    (name_fault_of context given s d initializer)
 
 -- ---- the type: that of the value, unqualified, with the qualifiers of the specifiers
 
