@@ -128,15 +128,6 @@ def judged_by_gcc(condition, answer):
     return compared(gcc.condition(condition), answer) if gcc.is_there() else SKIPPED
 
 
-def text_is_c89(path):
-    """A C89 compiler reads a text that the writer writes."""
-    if not gcc.is_there():
-        return SKIPPED
-    words = ["-std=c89", "-pedantic-errors", "-Wall", "-Wno-overlength-strings", "-fsyntax-only", "-xc", path]
-    code, _, err = gcc.gcc(words)
-    return None if code == 0 else err
-
-
 def place_of(answer):
     found = re.fullmatch(r"S01 (\d+):(\d+)", answer)
     return tuple(map(int, found.groups())) if found else None
@@ -427,11 +418,6 @@ def operation_cases():
     return [(operations_agree,)]
 
 
-def text_cases():
-    path = os.path.join(TOP, "crates", "writer_table", "stdout")
-    return [(text_is_c89, path)] if os.path.isfile(path) else []
-
-
 SUBJECTS = {
     "words": words_cases,
     "command": command_cases,
@@ -447,7 +433,6 @@ SUBJECTS = {
     "rules": rule_cases,
     "expressions": expression_cases,
     "operations": operation_cases,
-    "texts": text_cases,
 }
 
 
