@@ -1,19 +1,20 @@
 -- The table of structures as the code keeps it, while it grows.
 use Rattle.std.proofs.Common.{◌≡◌, ℕ, zero, suc, ◌<◌, true, List, [], ◌∷◌, ◌++◌, length, Option, Some, None, IfSome, slice_get, slice_set, slice_index_or, IsTrue, arith, length-append, refl, sym, ◌∙◌, ap, subst, ⊎_elim}
 use Rattle.std.proofs.lemmas.List.{map-append, length-map}
-use Rattle.std.proofs.lemmas.Option.{slice_get-map}
+use Rattle.std.proofs.lemmas.Option.{slice_get-map, same_Some}
 use Rattle.std.proofs.lemmas.Bool.{and_parts, cases_eq}
 use Rattle.std.specs.Option.{option_map}
 use Rattle.std.specs.List.{list_all}
 use Rattle.model_types.specs.declared.types.StructId.{StructId}
+use Rattle.model_types.specs.Types.{CType}
 use Rattle.model_types.specs.Structures.{Member, Structure, members_in, members_of, completed, members_below, is_closed, knows}
 use Rattle.model_types.specs.Layout.{Layout, layout_in, layout_of, layout_of_members, complete_count}
 use Rattle.c_types.specs.declared.extents.Extent.{Extent}
 use Rattle.c_types.specs.declared.structs.Body.{Body}
 use Rattle.c_types.specs.declared.structs.Entry.{Entry}
 use Rattle.c_types.specs.Extents.{kept}
-use Rattle.c_types.specs.Tables.{structure_of, structures, body_of, with_body, extent_in, IsTable}
-use Rattle.c_types.proofs.Growth.{layout_push, closed_push, other_completed, none_incomplete, layout_completed, layout_of_completed, closed_completed}
+use Rattle.c_types.specs.Tables.{structure_of, structures, body_of, with_body, extent_in, ArePlaced, IsTable}
+use Rattle.c_types.proofs.Growth.{Extends, type_extends, members_extend, layout_push, closed_push, other_completed, none_incomplete, layout_completed, layout_of_completed, closed_completed}
 
 members_in-map : (o : Option Entry) → members_in (option_map structure_of o) ≡ option_map (λ b. b.members) (body_of o)
 members_in-map None = refl
@@ -32,6 +33,18 @@ body_push (d ∷ ds) e h (suc k) = body_push ds e h k
 members_none : (e : Entry) → e.body ≡ None → (structure_of e).members ≡ None
 members_none e h = ap (option_map (λ b. b.members)) h
 
+-- ---- offsets that are kept stay those of the members
+
+placed_extends : (f g : CType → Option Layout) → Extends f g → (ms : List Member) (offsets : List ℕ) → ArePlaced f ms offsets → ArePlaced g ms offsets
+unfolding Extends
+placed_extends f g h ms offsets p = record { layouts = p.layouts; laid = members_extend f g h ms p.layouts p.laid; each = p.each }
+
+push_extends : (es : List Entry) (e : Entry) → e.body ≡ None → Extends (layout_of (structures es)) (layout_of (structures (es ++ e ∷ [])))
+unfolding Extends
+push_extends es e h =
+    type_extends (layout_in (structures es)) (layout_in (structures (es ++ e ∷ [])))
+    (λ s l r. ap (λ (xs : List Structure). layout_in xs s) (map-append structure_of es (e ∷ [])) ∙ layout_push (structures es) (structure_of e) (members_none e h) s ∙ r)
+
 -- one more incomplete structure
 pub table_push : (es : List Entry) (e : Entry) → e.body ≡ None → length es < 4294967295 → IsTable es → IsTable (es ++ e ∷ [])
 table_push es e h n t = record {
@@ -40,6 +53,9 @@ table_push es e h n t = record {
       ap (option_map (λ (b : Body). b.extent)) (body_push es e h s.0) ∙ t.laid s
       ∙ ap (option_map kept) (sym (layout_push (structures es) (structure_of e) (members_none e h) s))
       ∙ ap (λ (xs : List Structure). option_map kept (layout_in xs s)) (sym (map-append structure_of es (e ∷ [])));
+  placed = λ s b found.
+      placed_extends (layout_of (structures es)) (layout_of (structures (es ++ e ∷ []))) (push_extends es e h) b.members b.offsets
+      (t.placed s b (sym (body_push es e h s.0) ∙ found));
   closed =
       subst (λ (xs : List Structure). IsTrue (is_closed xs)) (sym (map-append structure_of es (e ∷ [])))
       (closed_push (structures es) (structure_of e) (members_none e h) t.closed);
@@ -93,6 +109,14 @@ other_body (e ∷ es) zero (suc j) b h = refl
 other_body (e ∷ es) (suc k) zero b h = refl
 other_body (e ∷ es) (suc k) (suc j) b h = other_body es k j b (λ same. h (ap suc same))
 
+completed_extends : (es : List Entry) (id : StructId) (b : Body) → id.0 < length es → members_of (structures es) id ≡ None
+    → Extends (layout_of (structures es)) (layout_of (structures (with_body es id.0 b)))
+unfolding Extends
+completed_extends es id b h e =
+    type_extends (layout_in (structures es)) (layout_in (structures (with_body es id.0 b)))
+    (λ s l r. ap (λ (xs : List Structure). layout_in xs s) (structures_with es id.0 b)
+    ∙ layout_completed (structures es) id.0 b.members (omega (arith, length-map es structure_of, h)) e s l r)
+
 -- what is kept comes from a layout
 from_kept : (e : Extent) (o : Option Layout) → Some e ≡ option_map kept o → (l : Layout) × (o ≡ Some l) × (Some e ≡ Some (kept l))
 from_kept e None h = cc
@@ -112,13 +136,26 @@ other_laid es id ms s t h e ne (Some b) f =
 -- a structure completed
 pub table_completed : (es : List Entry) (id : StructId) (b : Body) → IsTable es → id.0 < length es → members_of (structures es) id ≡ None
     → list_all (λ (x : Member). knows (structures es) x.ty) b.members ≡ true
-    → Some b.extent ≡ option_map kept (layout_of_members (layout_of (structures es)) (Some b.members)) → IsTable (with_body es id.0 b)
-table_completed es id b t h e known given = record {
+    → Some b.extent ≡ option_map kept (layout_of_members (layout_of (structures es)) (Some b.members))
+    → ArePlaced (layout_of (structures es)) b.members b.offsets → IsTable (with_body es id.0 b)
+table_completed es id b t h e known given placed = record {
   few = omega (arith, length_with es id.0 b, t.few);
   laid = λ s. ⊎_elim (same s) (other s) (cases_eq s.0 id.0) ∙ ap (λ (xs : List Structure). option_map kept (layout_in xs s)) (sym (structures_with es id.0 b));
+  placed = λ s x found. placed_extends (layout_of (structures es)) (layout_of (structures (with_body es id.0 b))) more x.members x.offsets (⊎_elim (own s x found) (others s x found) (cases_eq s.0 id.0));
   closed = subst (λ (xs : List Structure). IsTrue (is_closed xs)) (sym (structures_with es id.0 b)) (closed_completed (structures es) id.0 b.members known t.closed);
 }
   where
+    more : Extends (layout_of (structures es)) (layout_of (structures (with_body es id.0 b)))
+    more = completed_extends es id b h e
+
+    own : (s : StructId) (x : Body) → body_of (slice_get (with_body es id.0 b) s.0) ≡ Some x → s.0 ≡ id.0 → ArePlaced (layout_of (structures es)) x.members x.offsets
+    own s x found f =
+        let is : Some b ≡ Some x = sym (same_body es id.0 b h) ∙ ap (λ (n : ℕ). body_of (slice_get (with_body es id.0 b) n)) (sym f) ∙ found in
+        subst (λ (y : Body). ArePlaced (layout_of (structures es)) y.members y.offsets) (same_Some b x is) placed
+
+    others : (s : StructId) (x : Body) → body_of (slice_get (with_body es id.0 b) s.0) ≡ Some x → (s.0 ≡ id.0 → ⊥) → ArePlaced (layout_of (structures es)) x.members x.offsets
+    others s x found ne = t.placed s x (sym (other_body es id.0 s.0 b ne) ∙ found)
+
     here : (l : Layout) → layout_of_members (layout_of (structures es)) (Some b.members) ≡ Some l → layout_in (completed (structures es) id.0 b.members) id ≡ Some l
     here = layout_of_completed (structures es) id b.members (omega (arith, length-map es structure_of, h)) e
 

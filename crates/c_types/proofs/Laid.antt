@@ -11,7 +11,7 @@ use Rattle.model_types.specs.Layout.{Layout, is_complete, layout_in, layout_of, 
 use Rattle.c_types.specs.declared.structs.Body.{Body}
 use Rattle.c_types.specs.declared.structs.Entry.{Entry}
 use Rattle.c_types.specs.Extents.{kept}
-use Rattle.c_types.specs.Tables.{structure_of, structures, body_of, with_body, IsTable}
+use Rattle.c_types.specs.Tables.{structure_of, structures, body_of, with_body, ArePlaced, IsTable}
 use Rattle.c_types.proofs.Kept.{members_kept, table_completed, structures_with}
 
 some_map : {A B : Type 0} (f : A → B) (o : Option A) → is_some (option_map f o) ≡ is_some o
@@ -66,13 +66,15 @@ whole_laid es structs e h ms c n = impossible (ap is_some n ∙ some_map kept (l
 -- a structure completed, as the code knows it
 pub completed_table : (es ds : List Entry) (structs : List Structure) (id : StructId) (b : Body) (ms : List Member) → structures es ≡ structs → ds ≡ with_body es id.0 b
     → IsTable es → id.0 < length structs → members_of structs id ≡ None → list_all (λ (x : Member). knows structs x.ty) b.members ≡ true
-    → ms ≡ b.members → Some b.extent ≡ option_map kept (layout_of_members (layout_of structs) (Some ms)) → IsTable ds
-completed_table es ds structs id b ms e d h there none known same given =
+    → ms ≡ b.members → Some b.extent ≡ option_map kept (layout_of_members (layout_of structs) (Some ms)) → ArePlaced (layout_of structs) ms b.offsets → IsTable ds
+completed_table es ds structs id b ms e d h there none known same given placed =
     subst IsTable (sym d)
     (table_completed es id b h (omega (arith, length-map es structure_of, ap length e, there)) (ap (λ (xs : List Structure). members_of xs id) e ∙ none)
     (ap (λ (xs : List Structure). list_all (λ (x : Member). knows xs x.ty) b.members) e ∙ known)
     (given ∙ ap (λ (xs : List Member). option_map kept (layout_of_members (layout_of structs) (Some xs))) same
-    ∙ ap (λ (xs : List Structure). option_map kept (layout_of_members (layout_of xs) (Some b.members))) (sym e)))
+    ∙ ap (λ (xs : List Structure). option_map kept (layout_of_members (layout_of xs) (Some b.members))) (sym e))
+    (subst (λ (xs : List Structure). ArePlaced (layout_of xs) b.members b.offsets) (sym e)
+    (subst (λ (xs : List Member). ArePlaced (layout_of structs) xs b.offsets) same placed)))
 
 pub completed_view : (es ds : List Entry) (structs : List Structure) (k : ℕ) (b : Body) → structures es ≡ structs → ds ≡ with_body es k b
     → structures ds ≡ completed structs k b.members

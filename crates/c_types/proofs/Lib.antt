@@ -6,3 +6,5 @@ pub mod Kept
 pub mod Rows
 pub mod Laid
 pub mod Offsets
+pub mod RankLaws
+pub mod Placed

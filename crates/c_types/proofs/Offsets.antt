@@ -21,7 +21,7 @@ both_parts (Some l) None ls h = cc
 both_parts (Some l) (Some rest) ls h = (l, rest, refl, refl, sym (same_Some (l ∷ rest) ls h))
 
 -- the layouts of the first members
-taken_layouts : (f : CType → Option m.Layout) (ms : List Member) (ls : List m.Layout) (k : ℕ) → m.member_layouts f ms ≡ Some ls → m.member_layouts f (take k ms) ≡ Some (take k ls)
+pub taken_layouts : (f : CType → Option m.Layout) (ms : List Member) (ls : List m.Layout) (k : ℕ) → m.member_layouts f ms ≡ Some ls → m.member_layouts f (take k ms) ≡ Some (take k ls)
 taken_layouts f ms ls zero h = refl
 taken_layouts f [] ls (suc k) h = ap (λ (xs : List m.Layout). Some (take (suc k) xs)) (same_Some [] ls h)
 taken_layouts f (x ∷ xs) ls (suc k) h =
@@ -29,7 +29,7 @@ taken_layouts f (x ∷ xs) ls (suc k) h =
     ap₂ m.before_others p.2 (taken_layouts f xs p.1 k p.3) ∙ ap (λ (ys : List m.Layout). Some (take (suc k) ys)) (sym p.4)
 
 -- the layout of a member
-layout_at : (f : CType → Option m.Layout) (ms : List Member) (ls : List m.Layout) (k : ℕ) (x : Member) → m.member_layouts f ms ≡ Some ls → k < length ms → x ≡ get_or ms k x
+pub layout_at : (f : CType → Option m.Layout) (ms : List Member) (ls : List m.Layout) (k : ℕ) (x : Member) → m.member_layouts f ms ≡ Some ls → k < length ms → x ≡ get_or ms k x
     → f x.ty ≡ slice_get ls k
 layout_at f [] ls k x h lt is = absurd (omega (arith, lt))
 layout_at f (y ∷ ys) ls zero x h lt is =

@@ -5,8 +5,10 @@ ghost use Rattle.model_types.specs.Types.{form_of_type};
 ghost use Rattle.model_types.specs.Layout as m;
 ghost use Rattle.c_types.specs.Forms.{form_of};
 ghost use Rattle.c_types.specs.Extents as s;
+ghost use Rattle.c_types.specs.Tables.{ArePlaced, IsOffset};
 
 use crate::extents::{Extent, SIZE_LIMIT, padded_size};
+use crate::member_offsets::Offsets;
 use crate::members::{Member, Members};
 use crate::structs::Structs;
 use crate::types::{CType, TypeForm};
@@ -70,28 +72,38 @@ fn type_extent(structs: &Structs, t: &CType) -> Option<Extent>
     }
 }
 
-/// Members in a row; none where one is incomplete.
-fn row_extent(structs: &Structs, members: &[Member]) -> Option<Extent>
+/// Members in a row, with their offsets, where there is room for them; none where one is incomplete.
+fn row_extent(structs: &Structs, members: &[Member], offsets: &mut Offsets) -> Option<Extent>
     ensures row { result ≡ option_map (s.more_behind s.no_member) (m.member_layouts (m.layout_of structs.now) members.now) }
     ensures bounded { IfSome result s.IsBounded }
+    ensures placed { IfSome result (λ _. ArePlaced (m.layout_of structs.now) members.now offsets.new) }
 {
     let mut row = Extent::no_member();
+    let mut at = 0;
     for member in members {
         match type_extent(structs, member.ty()) {
             Some(extent) => {
+                offsets.keep(at, padded_size(row.size, extent.align));
                 row = row.followed_by(extent);
             }
             None => return None,
         }
+        at += 1;
     }
     Some(row)
 }
 
-/// A structure of these members; none where one is incomplete.
-pub fn structure_extent(structs: &Structs, members: &[Member]) -> Option<Extent>
-    ensures { result ≡ option_map s.kept (m.layout_of_members (m.layout_of structs.now) (Some members.now)) }
+/// A structure of these members, with their offsets, where there is room for them; none where one is
+/// incomplete.
+pub fn structure_extent(
+    structs: &Structs,
+    members: &[Member],
+    offsets: &mut Offsets,
+) -> Option<Extent>
+    ensures whole { result ≡ option_map s.kept (m.layout_of_members (m.layout_of structs.now) (Some members.now)) }
+    ensures placed { IfSome result (λ _. ArePlaced (m.layout_of structs.now) members.now offsets.new) }
 {
-    match row_extent(structs, members) {
+    match row_extent(structs, members, offsets) {
         Some(row) => Some(row.padded()),
         None => None,
     }
@@ -132,10 +144,36 @@ pub fn member_offset(structs: &Structs, t: &CType, member: u32) -> Option<u64>
 {
     match size_of(structs, t) {
         Some(_) => match members_of_type(structs, t) {
-            Some(members) => offset_in_row(structs, members.as_slice(), member as usize),
+            Some(members) => offset_among(structs, t, members, member as usize),
             None => None,
         },
         None => None,
+    }
+}
+
+/// The offset that is kept for the member of a rank of a type, where it is a complete structure.
+fn kept_offset(structs: &Structs, t: &CType, at: usize) -> Option<u64>
+    ensures { IsOffset structs.now (m.members_of_form structs.now (form_of_type t.now)) at result }
+{
+    match t.form() {
+        TypeForm::Struct(id) => structs.kept_offset(*id, at),
+        TypeForm::Void => None,
+        TypeForm::Integer(_) => None,
+        TypeForm::Enum(..) => None,
+        TypeForm::Pointer(_) => None,
+        TypeForm::Array(..) => None,
+        TypeForm::Function(..) => None,
+    }
+}
+
+/// The offset of the member of a rank of a type whose size is within the limit.
+fn offset_among(structs: &Structs, t: &CType, members: &Members, at: usize) -> Option<u64>
+    requires { Some members.now ≡ m.members_of_form structs.now (form_of_type t.now) }
+    ensures { (ls : List m.Layout) → m.member_layouts (m.layout_of structs.now) members.now ≡ Some ls → (m.in_a_row ls).size ≤ m.size_limit → result ≡ m.offset_in ls at }
+{
+    match kept_offset(structs, t, at) {
+        Some(offset) => Some(offset),
+        None => offset_in_row(structs, members.as_slice(), at),
     }
 }
 
@@ -154,7 +192,16 @@ fn members_of_type<'a>(structs: &'a Structs, t: &CType) -> Option<&'a Members>
     }
 }
 
-/// The offset of the member of a rank in a row whose size is within the limit.
+/// Members in a row, whose offsets aren't kept.
+fn row_before(structs: &Structs, members: &[Member]) -> Option<Extent>
+    ensures row { result ≡ option_map (s.more_behind s.no_member) (m.member_layouts (m.layout_of structs.now) members.now) }
+    ensures bounded { IfSome result s.IsBounded }
+{
+    let mut none = Offsets::new(structs.allocator());
+    row_extent(structs, members, &mut none)
+}
+
+/// The offset of the member of a rank in a row whose size is within the limit, by the members before it.
 fn offset_in_row(structs: &Structs, members: &[Member], at: usize) -> Option<u64>
     ensures { (ls : List m.Layout) → m.member_layouts (m.layout_of structs.now) members.now ≡ Some ls → (m.in_a_row ls).size ≤ m.size_limit → result ≡ m.offset_in ls at }
 {
@@ -162,7 +209,7 @@ fn offset_in_row(structs: &Structs, members: &[Member], at: usize) -> Option<u64
         return None;
     }
     let (before, _) = members.split_at(at);
-    match row_extent(structs, before) {
+    match row_before(structs, before) {
         Some(row) => match type_extent(structs, members[at].ty()) {
             Some(extent) => Some(padded_size(row.size, extent.align)),
             None => None,

@@ -1,11 +1,16 @@
 //! The members of a structure.
-ghost use Rattle.std.specs.Prelude.{◌≡◌, ◌<◌, ◌≤◌, [], ◌∷◌, ◌++◌, length, slice_get, Some, IfOk, OnOk, OnErr};
+ghost use Rattle.std.specs.Prelude.{◌≡◌, ◌<◌, ◌≤◌, ◌^◌, [], ◌∷◌, ◌++◌, length, position, slice_get, Some, IfOk, OnOk, OnErr};
 ghost use Rattle.std.specs.Option.{option_map};
+ghost use Rattle.model_types.specs.Texts.{same_text};
+ghost use Rattle.c_types.specs.Ranks as s;
 
+use crate::member_offsets::Offsets;
+use crate::ranks::Ranks;
 use crate::types::CType;
 use cake_base::{Bytes, NoMemory, Place};
 use std::alloc::Global;
 use std::marker::Model;
+use std::mem;
 
 /// A member, with the place of its name.
 #[derive(Drop)]
@@ -27,24 +32,28 @@ impl Model for Member {
 }
 
 impl Member {
+    /// The name.
     pub fn name(&self) -> &Bytes
         ensures { result.now ≡ self.now.name }
     {
         &self.name
     }
 
+    /// The type.
     pub fn ty(&self) -> &CType
         ensures { result.now ≡ self.now.ty }
     {
         &self.ty
     }
 
+    /// The place of the name.
     pub fn place(&self) -> Place
         ensures { result ≡ self.now.place }
     {
         self.place
     }
 
+    /// An equal member.
     pub fn copy(&self, alloc: Global) -> Result<Member, NoMemory>
         ensures { IfOk result (λ made. made ≡ self.now) }
     {
@@ -57,13 +66,18 @@ impl Member {
 }
 
 /// The members of a structure in order, at most 4,294,967,295 of them. Contracts see a list.
+///
+/// Beside them stand their ranks by name, and room for their offsets, so that a structure is completed
+/// without more memory.
 #[derive(Drop)]
 pub struct Members {
     items: Vec<Member>,
+    ranks: Ranks,
+    room: Offsets,
 }
 
 impl Model for Members {
-    ghost use Rattle.std.specs.Prelude.{List, length, ◌<◌, ◌^◌};
+    ghost use Rattle.std.specs.Prelude.{List};
     ghost use Rattle.std.specs.Coded.{coded_list};
     ghost use Rattle.model_types.specs.Structures as m;
     ghost use Rattle.model_types.specs.apparatus.TypesCode.{coded_member};
@@ -74,7 +88,9 @@ impl Model for Members {
 
     ghost view = { λ a. a.items.items };
 
-    ghost invariant = { λ a. length a.items.items < 2 ^ 32 };
+    ghost use Rattle.c_types.specs.Ranks.{IsRanked};
+
+    ghost invariant = { λ a. IsRanked a.items.items a.ranks };
 }
 
 impl Members {
@@ -84,6 +100,8 @@ impl Members {
     {
         Members {
             items: Vec::new(alloc),
+            ranks: Ranks::new(alloc),
+            room: Offsets::new(alloc),
         }
     }
 
@@ -94,10 +112,24 @@ impl Members {
         ensures ok { OnOk result (self.new ≡ self.old ++ record { name = name; ty = ty; place = place } ∷ []) }
         ensures err { OnErr result (self.new ≡ self.old) }
     {
-        match self.items.push(Member { name, ty, place }) {
-            Ok(()) => Ok(()),
-            Err(_) => Err(NoMemory),
-        }
+        self.add(Member { name, ty, place })
+    }
+
+    fn add(&mut self, member: Member) -> Result<(), NoMemory>
+        requires { length self.old < 4294967295 }
+        ensures ok { OnOk result (self.new ≡ self.old ++ member ∷ []) }
+        ensures err { OnErr result (self.new ≡ self.old) }
+    {
+        self.room.make_room()?;
+        put(&mut self.items, &mut self.ranks, member)
+    }
+
+    /// Takes the room for offsets away.
+    pub(crate) fn take_room(&mut self) -> Offsets
+        ensures { self.new ≡ self.old }
+    {
+        let none = Offsets::new(self.room.allocator());
+        mem::replace(&mut self.room, none)
     }
 
     /// The number of members.
@@ -131,6 +163,13 @@ impl Members {
         self.items[at as usize].place()
     }
 
+    /// The rank of the first member of that name; none where there is none.
+    pub fn rank(&self, name: &[u8]) -> Option<u32>
+        ensures { result ≡ position (λ m. same_text name.now m.name) self.now }
+    {
+        self.ranks.get(name)
+    }
+
     /// The members in order.
     pub fn as_slice(&self) -> &[Member]
         ensures { result.now ≡ self.now }
@@ -142,18 +181,29 @@ impl Members {
     pub fn copy(&self, alloc: Global) -> Result<Members, NoMemory>
         ensures { IfOk result (λ made. made ≡ self.now) }
     {
-        Ok(Members {
-            items: copy_all(alloc, &self.items)?,
-        })
+        copy_all(alloc, &self.items)
     }
 }
 
-fn copy_all(alloc: Global, members: &[Member]) -> Result<Vec<Member>, NoMemory>
-    ensures { IfOk result (λ made. made.items ≡ members.now) }
+/// Adds a member with the rank of its name. On refusal nothing has changed.
+fn put(items: &mut Vec<Member>, ranks: &mut Ranks, member: Member) -> Result<(), NoMemory>
+    requires { length items.old.items < 4294967295 }
+    ensures ok { OnOk result ((items.new.items ≡ items.old.items ++ member ∷ []) × (ranks.new ≡ s.noted member.name (length items.old.items) ranks.old)) }
+    ensures err { OnErr result ((items.new.items ≡ items.old.items) × (ranks.new ≡ ranks.old)) }
 {
-    let mut made = Vec::new(alloc);
+    items.reserve(1)?;
+    ranks.note(member.name().as_slice(), items.len() as u32)?;
+    items.push(member)?;
+    Ok(())
+}
+
+fn copy_all(alloc: Global, members: &[Member]) -> Result<Members, NoMemory>
+    requires { length members.now < 2 ^ 32 }
+    ensures { IfOk result (λ made. made ≡ members.now) }
+{
+    let mut made = Members::new(alloc);
     for member in members {
-        made.push(member.copy(alloc)?)?;
+        made.add(member.copy(alloc)?)?;
     }
     Ok(made)
 }

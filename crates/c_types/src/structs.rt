@@ -5,21 +5,24 @@ ghost use Rattle.std.specs.List.{list_all};
 ghost use Rattle.model_types.specs.Structures as m;
 ghost use Rattle.model_types.specs.Layout as l;
 ghost use Rattle.c_types.specs.Extents as s;
-ghost use Rattle.c_types.specs.Tables.{body_of, with_body};
+ghost use Rattle.c_types.specs.Tables.{body_of, with_body, offset_kept, IsOffset};
 
 use crate::extents::Extent;
 use crate::layout::structure_extent;
+use crate::member_offsets::Offsets;
 use crate::members::Members;
 use cake_base::{Bytes, NoMemory, Place};
 use model_types::types::StructId;
 use std::alloc::Global;
 use std::marker::Model;
 
-/// The members of a complete structure, with its size and alignment.
+/// The members of a complete structure, with its size and alignment, and with their offsets, as many as
+/// there was room for.
 #[derive(Drop)]
 pub struct Body {
     members: Members,
     extent: Extent,
+    offsets: Offsets,
 }
 
 /// A structure, with its body once it is complete.
@@ -65,6 +68,17 @@ fn body_at(entries: &[Entry], at: usize) -> Option<&Body>
     }
 }
 
+/// The offset that is kept for the member of a rank.
+fn offset_at(body: &Body, at: usize) -> Option<u64>
+    ensures { result ≡ offset_kept body.now.members body.now.offsets at }
+{
+    if at < body.members.count() as usize {
+        body.offsets.get(at)
+    } else {
+        None
+    }
+}
+
 /// Gives the entry of a rank its body.
 fn set_body(entries: &mut Vec<Entry>, at: usize, body: Body)
     requires { at < length entries.old.items }
@@ -107,7 +121,7 @@ impl Structs {
         Ok(id)
     }
 
-    /// Gives a structure its members, and keeps its size and alignment beside them.
+    /// Gives a structure its members, and keeps its size and alignment, and their offsets, beside them.
     pub fn complete(&mut self, id: StructId, members: Members)
         requires there { id.0 < length self.old }
         requires incomplete { m.members_of self.old id ≡ None }
@@ -116,8 +130,18 @@ impl Structs {
         requires complete { IsTrue (list_all (λ e. l.is_complete self.old e.ty) members) }
         ensures { self.new ≡ m.completed self.old id.0 members }
     {
-        if let Some(extent) = structure_extent(self, members.as_slice()) {
-            set_body(&mut self.entries, id.0 as usize, Body { members, extent });
+        let mut members = members;
+        let mut offsets = members.take_room();
+        if let Some(extent) = structure_extent(self, members.as_slice(), &mut offsets) {
+            set_body(
+                &mut self.entries,
+                id.0 as usize,
+                Body {
+                    members,
+                    extent,
+                    offsets,
+                },
+            );
         }
     }
 
@@ -150,6 +174,21 @@ impl Structs {
             Some(body) => Some(body.extent),
             None => None,
         }
+    }
+
+    /// The offset that is kept for the member of a rank of a structure that is there and complete.
+    pub(crate) fn kept_offset(&self, id: StructId, at: usize) -> Option<u64>
+        ensures { IsOffset self.now (m.members_of self.now id) at result }
+    {
+        match body_at(&self.entries, id.0 as usize) {
+            Some(body) => offset_at(body, at),
+            None => None,
+        }
+    }
+
+    /// What the table takes its memory from.
+    pub(crate) fn allocator(&self) -> Global {
+        *self.entries.allocator()
     }
 
     /// The number of structures.
@@ -230,9 +269,19 @@ fn copy_body(alloc: Global, body: &Option<Body>) -> Result<Option<Body>, NoMemor
 {
     match body {
         Some(body) => Ok(Some(Body {
-            members: body.members.copy(alloc)?,
+            members: copy_members(alloc, &body.members)?,
             extent: body.extent,
+            offsets: body.offsets.copy(alloc)?,
         })),
         None => Ok(None),
     }
+}
+
+/// An equal list, without room for offsets.
+fn copy_members(alloc: Global, members: &Members) -> Result<Members, NoMemory>
+    ensures { IfOk result (λ made. made ≡ members.now) }
+{
+    let mut made = members.copy(alloc)?;
+    let _ = made.take_room();
+    Ok(made)
 }
