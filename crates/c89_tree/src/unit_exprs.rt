@@ -87,9 +87,15 @@ pub enum OutExprForm {
 
 /// An expression.
 #[cycle(out_expr)]
-#[derive(Drop)]
 pub struct OutExpr {
     form: Rc<OutExprForm>,
+}
+
+impl Drop for OutExpr {
+    #[cycle(out_expr_let_go)]
+    fn drop(self) {
+        let OutExpr { form: _ } = self;
+    }
 }
 
 /// The form of an initial value (6.5.7).
@@ -112,9 +118,15 @@ pub enum OutInitForm {
 
 /// An initial value.
 #[cycle(out_init)]
-#[derive(Drop)]
 pub struct OutInit {
     form: Rc<OutInitForm>,
+}
+
+impl Drop for OutInit {
+    #[cycle(out_init_let_go)]
+    fn drop(self) {
+        let OutInit { form: _ } = self;
+    }
 }
 
 impl Model for OutExpr {

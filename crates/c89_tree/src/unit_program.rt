@@ -36,9 +36,14 @@ pub enum OutStructureForm {
 }
 
 /// A structure.
-#[derive(Drop)]
 pub struct OutStructure {
     form: Rc<OutStructureForm>,
+}
+
+impl Drop for OutStructure {
+    fn drop(self) {
+        let OutStructure { form: _ } = self;
+    }
 }
 
 /// The parts of a declaration outside of functions (6.7).
@@ -52,9 +57,14 @@ pub struct OutOuterForm {
 }
 
 /// A declaration outside of functions.
-#[derive(Drop)]
 pub struct OutOuter {
     form: Rc<OutOuterForm>,
+}
+
+impl Drop for OutOuter {
+    fn drop(self) {
+        let OutOuter { form: _ } = self;
+    }
 }
 
 /// The parts of a defined function (6.7.1).
@@ -71,9 +81,14 @@ pub struct OutFunctionForm {
 }
 
 /// A defined function.
-#[derive(Drop)]
 pub struct OutFunction {
     form: Rc<OutFunctionForm>,
+}
+
+impl Drop for OutFunction {
+    fn drop(self) {
+        let OutFunction { form: _ } = self;
+    }
 }
 
 /// The parts of a program, in the order of the text.
@@ -85,9 +100,14 @@ pub struct C89Form {
 }
 
 /// A C89 program.
-#[derive(Drop)]
 pub struct C89Unit {
     form: Rc<C89Form>,
+}
+
+impl Drop for C89Unit {
+    fn drop(self) {
+        let C89Unit { form: _ } = self;
+    }
 }
 
 impl Model for OutStructure {

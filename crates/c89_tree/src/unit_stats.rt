@@ -19,9 +19,14 @@ pub enum OutLabelForm {
 }
 
 /// A label in the body of a `switch`.
-#[derive(Drop)]
 pub struct OutLabel {
     form: Rc<OutLabelForm>,
+}
+
+impl Drop for OutLabel {
+    fn drop(self) {
+        let OutLabel { form: _ } = self;
+    }
 }
 
 /// The form of a statement (6.6). Where it holds statements, these are a block's, which begins with the
@@ -72,9 +77,15 @@ pub enum OutStatForm {
 
 /// A statement.
 #[cycle(out_stat)]
-#[derive(Drop)]
 pub struct OutStat {
     form: Rc<OutStatForm>,
+}
+
+impl Drop for OutStat {
+    #[cycle(out_stat_let_go)]
+    fn drop(self) {
+        let OutStat { form: _ } = self;
+    }
 }
 
 /// A list of statements.
@@ -86,9 +97,15 @@ pub struct OutStatsForm {
 
 /// The statements of a block or of an expression's effects.
 #[cycle(out_stat)]
-#[derive(Drop)]
 pub struct OutStats {
     form: Rc<OutStatsForm>,
+}
+
+impl Drop for OutStats {
+    #[cycle(out_stat_let_go)]
+    fn drop(self) {
+        let OutStats { form: _ } = self;
+    }
 }
 
 /// A statement in the body of a `switch`, with the labels before it.
@@ -101,9 +118,15 @@ pub struct OutItemForm {
 
 /// A statement in the body of a `switch`, behind its labels.
 #[cycle(out_stat)]
-#[derive(Drop)]
 pub struct OutItem {
     form: Rc<OutItemForm>,
+}
+
+impl Drop for OutItem {
+    #[cycle(out_stat_let_go)]
+    fn drop(self) {
+        let OutItem { form: _ } = self;
+    }
 }
 
 impl Model for OutLabel {

@@ -52,9 +52,15 @@ pub enum OutTypeForm {
 
 /// A type.
 #[cycle(out_type)]
-#[derive(Drop)]
 pub struct OutType {
     form: Rc<OutTypeForm>,
+}
+
+impl Drop for OutType {
+    #[cycle(out_type_let_go)]
+    fn drop(self) {
+        let OutType { form: _ } = self;
+    }
 }
 
 /// The parts of a declaration of an object, a member or a parameter (6.5).
@@ -65,9 +71,14 @@ pub struct OutDeclarationForm {
 }
 
 /// A declaration of an object, a member or a parameter.
-#[derive(Drop)]
 pub struct OutDeclaration {
     form: Rc<OutDeclarationForm>,
+}
+
+impl Drop for OutDeclaration {
+    fn drop(self) {
+        let OutDeclaration { form: _ } = self;
+    }
 }
 
 impl Model for OutType {

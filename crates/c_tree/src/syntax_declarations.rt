@@ -31,10 +31,16 @@ pub enum DeclarationForm {
 
 /// A declaration.
 #[cycle(syntax)]
-#[derive(Drop)]
 pub struct Declaration {
     form: Rc<DeclarationForm>,
     depth: u32,
+}
+
+impl Drop for Declaration {
+    #[cycle(letting_go)]
+    fn drop(self) {
+        let Declaration { form: _, depth: _ } = self;
+    }
 }
 
 /// A declarator, with its initializer where it has one.

@@ -41,10 +41,16 @@ pub enum DeclaratorForm {
 
 /// A declarator.
 #[cycle(syntax)]
-#[derive(Drop)]
 pub struct Declarator {
     form: Rc<DeclaratorForm>,
     depth: u32,
+}
+
+impl Drop for Declarator {
+    #[cycle(letting_go)]
+    fn drop(self) {
+        let Declarator { form: _, depth: _ } = self;
+    }
 }
 
 /// What makes an array or a function of what stands before it (6.7.7.3, 6.7.7.4). The place is that of the `[` or `(`.

@@ -155,10 +155,16 @@ pub enum ExprForm {
 
 /// An expression.
 #[cycle(syntax)]
-#[derive(Drop)]
 pub struct Expr {
     form: Rc<ExprForm>,
     depth: u32,
+}
+
+impl Drop for Expr {
+    #[cycle(letting_go)]
+    fn drop(self) {
+        let Expr { form: _, depth: _ } = self;
+    }
 }
 
 impl Model for Expr {

@@ -23,10 +23,16 @@ pub enum InitializerForm {
 
 /// An initializer.
 #[cycle(syntax)]
-#[derive(Drop)]
 pub struct Initializer {
     form: Rc<InitializerForm>,
     depth: u32,
+}
+
+impl Drop for Initializer {
+    #[cycle(letting_go)]
+    fn drop(self) {
+        let Initializer { form: _, depth: _ } = self;
+    }
 }
 
 /// Initializers in braces, with the place of the `{`.

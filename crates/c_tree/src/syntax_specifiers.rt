@@ -25,10 +25,16 @@ pub struct TypeNameForm {
 
 /// A type name.
 #[cycle(syntax)]
-#[derive(Drop)]
 pub struct TypeName {
     form: Rc<TypeNameForm>,
     depth: u32,
+}
+
+impl Drop for TypeName {
+    #[cycle(letting_go)]
+    fn drop(self) {
+        let TypeName { form: _, depth: _ } = self;
+    }
 }
 
 /// A specifier of a declaration (6.7.1 to 6.7.5). The place is that of its word.
@@ -97,10 +103,16 @@ pub struct SpecsForm {
 
 /// A list of specifiers.
 #[cycle(syntax)]
-#[derive(Drop)]
 pub struct Specs {
     form: Rc<SpecsForm>,
     depth: u32,
+}
+
+impl Drop for Specs {
+    #[cycle(letting_go)]
+    fn drop(self) {
+        let Specs { form: _, depth: _ } = self;
+    }
 }
 
 /// What a declaration in the braces of a structure is (6.7.3.2).

@@ -90,10 +90,16 @@ pub enum StatementForm {
 
 /// A statement.
 #[cycle(syntax)]
-#[derive(Drop)]
 pub struct Statement {
     form: Rc<StatementForm>,
     depth: u32,
+}
+
+impl Drop for Statement {
+    #[cycle(letting_go)]
+    fn drop(self) {
+        let Statement { form: _, depth: _ } = self;
+    }
 }
 
 /// What stands in a block (6.8.3). The place of a label is that of its word.

@@ -34,10 +34,15 @@ pub struct TreeForm {
 }
 
 /// A whole tree of the grammar.
-#[derive(Drop)]
 pub struct Tree {
     form: Rc<TreeForm>,
     depth: u32,
+}
+
+impl Drop for Tree {
+    fn drop(self) {
+        let Tree { form: _, depth: _ } = self;
+    }
 }
 
 impl Model for Tree {

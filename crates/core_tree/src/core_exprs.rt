@@ -117,10 +117,16 @@ pub enum CoreExprForm {
 
 /// An expression that has a value, with its type.
 #[cycle(core_expr)]
-#[derive(Drop)]
 pub struct CoreExpr {
     form: Rc<CoreExprForm>,
     ty: CType,
+}
+
+impl Drop for CoreExpr {
+    #[cycle(core_expr_let_go)]
+    fn drop(self) {
+        let CoreExpr { form: _, ty: _ } = self;
+    }
 }
 
 /// The form of an expression that designates an object (6.3.3.1), with its mark.
@@ -171,10 +177,16 @@ pub enum CoreLvalueForm {
 
 /// An expression that designates an object, with the type of the object.
 #[cycle(core_expr)]
-#[derive(Drop)]
 pub struct CoreLvalue {
     form: Rc<CoreLvalueForm>,
     ty: CType,
+}
+
+impl Drop for CoreLvalue {
+    #[cycle(core_expr_let_go)]
+    fn drop(self) {
+        let CoreLvalue { form: _, ty: _ } = self;
+    }
 }
 
 /// The parts of an initial value (6.7.11).
@@ -192,9 +204,15 @@ pub struct CoreInitialForm {
 
 /// An initial value of a part of an object.
 #[cycle(core_expr)]
-#[derive(Drop)]
 pub struct CoreInitial {
     form: Rc<CoreInitialForm>,
+}
+
+impl Drop for CoreInitial {
+    #[cycle(core_expr_let_go)]
+    fn drop(self) {
+        let CoreInitial { form: _ } = self;
+    }
 }
 
 impl Model for CoreExpr {

@@ -2,7 +2,7 @@
 ghost use Rattle.std.specs.Prelude.{IsTrue};
 ghost use Rattle.std.specs.List.{list_all};
 ghost use Rattle.model_core.specs.Core as m;
-ghost use Rattle.core_tree.specs.CoreNodes.{is_typed_object, is_typed_function};
+ghost use Rattle.model_core.specs.TypedUnitParts.{is_typed_object, is_typed_function};
 ghost use Rattle.model_core.specs.TypedCore.{TypedCore};
 
 /// The objects and functions of a typed core are typed by themselves, so that there are nodes for all of

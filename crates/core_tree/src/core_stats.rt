@@ -85,9 +85,15 @@ pub enum CoreStatForm {
 
 /// A statement.
 #[cycle(core_stat)]
-#[derive(Drop)]
 pub struct CoreStat {
     form: Rc<CoreStatForm>,
+}
+
+impl Drop for CoreStat {
+    #[cycle(core_stat_let_go)]
+    fn drop(self) {
+        let CoreStat { form: _ } = self;
+    }
 }
 
 /// The form of a label or of a statement in the body of a `switch` (6.8.2, 6.8.5.3).
@@ -101,9 +107,15 @@ pub enum CoreCaseForm {
 
 /// A label or a statement in the body of a `switch`.
 #[cycle(core_stat)]
-#[derive(Drop)]
 pub struct CoreCase {
     form: Rc<CoreCaseForm>,
+}
+
+impl Drop for CoreCase {
+    #[cycle(core_stat_let_go)]
+    fn drop(self) {
+        let CoreCase { form: _ } = self;
+    }
 }
 
 impl Model for CoreStat {

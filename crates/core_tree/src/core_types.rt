@@ -2,93 +2,16 @@
 ghost use Rattle.std.specs.Prelude.{◌≡◌, IfOk, if◌then◌else◌};
 ghost use Rattle.model_types.specs.Types.{form_of_type};
 ghost use Rattle.model_core.specs.CoreTypes as m;
-ghost use Rattle.model_types.specs.Conversions as c;
-ghost use Rattle.c_types.specs.Forms.{form_of};
 ghost use Rattle.core_tree.specs.CoreForms.{expr_of, lvalue_of};
 
 use crate::core_exprs::{CoreExprForm, CoreLvalueForm};
-use c_types::{CType, Quals, TypeForm};
+use c_types::{CType, TypeForm, is_comparison};
 use cake_base::NoMemory;
+use check_types::{element, is_pointer, plain, pointed_to, pointer_to, unqualified};
 use model_types::marks::Origin;
 use model_types::numbers::{Basic, BinOp};
 use model_types::operators::UnaryOp;
 use std::alloc::Global;
-
-const NO_QUALS: Quals = Quals {
-    has_const: false,
-    has_restrict: false,
-    has_owner: false,
-    has_view: false,
-    has_opt: false,
-};
-
-fn plain(alloc: Global, form: TypeForm) -> Result<CType, NoMemory>
-    ensures { IfOk result (λ made. made ≡ m.plain (form_of form)) }
-{
-    CType::new(alloc, form, NO_QUALS)
-}
-
-/// The unqualified version of a type (ISO/IEC 9899:2024, 6.7.4.1): the qualifiers of an array are those of its
-/// elements.
-fn unqualified(alloc: Global, ty: &CType) -> Result<CType, NoMemory>
-    ensures { IfOk result (λ made. made ≡ m.unqualified ty.now) }
-{
-    match ty.form() {
-        TypeForm::Array(of, count) => {
-            let of = unqualified(alloc, of)?;
-            plain(alloc, TypeForm::Array(of, *count))
-        }
-        TypeForm::Void
-        | TypeForm::Integer(_)
-        | TypeForm::Enum(_, _)
-        | TypeForm::Pointer(_)
-        | TypeForm::Struct(_)
-        | TypeForm::Function(_, _, _) => ty.with_quals(alloc, NO_QUALS),
-    }
-}
-
-fn pointer_to(alloc: Global, ty: &CType) -> Result<CType, NoMemory>
-    ensures { IfOk result (λ made. made ≡ m.pointer_to ty.now) }
-{
-    let to = ty.copy(alloc)?;
-    plain(alloc, TypeForm::Pointer(to))
-}
-
-fn is_pointer(ty: &CType) -> bool
-    ensures { result ≡ m.is_pointer (form_of_type ty.now) }
-{
-    matches!(ty.form(), TypeForm::Pointer(_))
-}
-
-/// What a pointer points to; of another type, itself without qualifiers.
-fn pointee(alloc: Global, ty: &CType) -> Result<CType, NoMemory>
-    ensures { IfOk result (λ made. made ≡ m.pointee (form_of_type ty.now)) }
-{
-    match ty.form() {
-        TypeForm::Pointer(to) => to.copy(alloc),
-        TypeForm::Void
-        | TypeForm::Integer(_)
-        | TypeForm::Enum(_, _)
-        | TypeForm::Array(_, _)
-        | TypeForm::Struct(_)
-        | TypeForm::Function(_, _, _) => ty.with_quals(alloc, NO_QUALS),
-    }
-}
-
-/// What an array has as elements; of another type, itself.
-fn element(alloc: Global, ty: &CType) -> Result<CType, NoMemory>
-    ensures { IfOk result (λ made. made ≡ m.element ty.now) }
-{
-    match ty.form() {
-        TypeForm::Array(of, _) => of.copy(alloc),
-        TypeForm::Void
-        | TypeForm::Integer(_)
-        | TypeForm::Enum(_, _)
-        | TypeForm::Pointer(_)
-        | TypeForm::Struct(_)
-        | TypeForm::Function(_, _, _) => ty.copy(alloc),
-    }
-}
 
 /// What a function gives; of another type, itself without qualifiers.
 fn result_of(alloc: Global, ty: &CType) -> Result<CType, NoMemory>
@@ -108,7 +31,7 @@ fn result_of(alloc: Global, ty: &CType) -> Result<CType, NoMemory>
 fn called_type(alloc: Global, function: &CType) -> Result<CType, NoMemory>
     ensures { IfOk result (λ made. made ≡ m.called_type (form_of_type function.now)) }
 {
-    let called = pointee(alloc, function)?;
+    let called = pointed_to(alloc, function)?;
     result_of(alloc, &called)
 }
 
@@ -131,20 +54,6 @@ fn unary_type(alloc: Global, op: UnaryOp, operand: &CType) -> Result<CType, NoMe
         UnaryOp::Not => plain(alloc, TypeForm::Integer(Basic::Int)),
         UnaryOp::Minus | UnaryOp::Complement => operand.copy(alloc),
     }
-}
-
-fn is_comparison(op: BinOp) -> bool
-    ensures { result ≡ c.is_comparison op }
-{
-    matches!(
-        op,
-        BinOp::Less
-            | BinOp::Greater
-            | BinOp::LessEqual
-            | BinOp::GreaterEqual
-            | BinOp::Equal
-            | BinOp::NotEqual
-    )
 }
 
 /// The type of a sum, and of what is done in the type of its left operand.
@@ -213,13 +122,13 @@ pub fn lvalue_type(alloc: Global, form: &CoreLvalueForm) -> Result<CType, NoMemo
 {
     match form {
         CoreLvalueForm::Object { ty, .. } => ty.copy(alloc),
-        CoreLvalueForm::Deref { pointer, .. } => pointee(alloc, pointer.ty()),
+        CoreLvalueForm::Deref { pointer, .. } => pointed_to(alloc, pointer.ty()),
         CoreLvalueForm::Index {
             is_second,
             first,
             second,
             ..
-        } => pointee(alloc, if *is_second { second.ty() } else { first.ty() }),
+        } => pointed_to(alloc, if *is_second { second.ty() } else { first.ty() }),
         CoreLvalueForm::Field { ty, .. } => ty.copy(alloc),
         CoreLvalueForm::Arrow { ty, .. } => ty.copy(alloc),
         CoreLvalueForm::Literal { ty, .. } => ty.copy(alloc),

@@ -1,6 +1,6 @@
 //! Objects, functions and the whole of the typed core, behind counted references: to copy one costs nothing.
 ghost use Rattle.std.specs.Prelude.{◌≡◌, IfOk, IsTrue, length};
-ghost use Rattle.core_tree.specs.CoreNodes.{is_typed_object, is_typed_function};
+ghost use Rattle.model_core.specs.TypedUnitParts.{is_typed_object, is_typed_function};
 ghost use Rattle.model_core.specs.TypedCore.{TypedCore};
 ghost use Rattle.core_tree.specs.CoreUnitForms.{object_of, function_of, core_of};
 ghost use Rattle.core_tree.specs.CoreTrees.{object_tree, function_tree, core_tree};
@@ -45,9 +45,14 @@ pub struct CoreObjectForm {
 }
 
 /// An object of a unit.
-#[derive(Drop)]
 pub struct CoreObject {
     form: Rc<CoreObjectForm>,
+}
+
+impl Drop for CoreObject {
+    fn drop(self) {
+        let CoreObject { form: _ } = self;
+    }
 }
 
 /// The name of a function, or the place of a function literal.
@@ -75,9 +80,14 @@ pub struct CoreFunctionForm {
 }
 
 /// A function of a unit.
-#[derive(Drop)]
 pub struct CoreFunction {
     form: Rc<CoreFunctionForm>,
+}
+
+impl Drop for CoreFunction {
+    fn drop(self) {
+        let CoreFunction { form: _ } = self;
+    }
 }
 
 /// The type of a declarator or a type-name, and its place.
@@ -98,15 +108,20 @@ pub struct CoreForm {
 }
 
 /// A unit, which is typed.
-#[derive(Drop)]
 pub struct Core {
     form: Rc<CoreForm>,
+}
+
+impl Drop for Core {
+    fn drop(self) {
+        let Core { form: _ } = self;
+    }
 }
 
 impl Model for CoreObject {
     ghost use Rattle.std.specs.Prelude.{IsTrue};
     ghost use Rattle.model_core.specs.Core as m;
-    ghost use Rattle.core_tree.specs.CoreNodes.{is_typed_object};
+    ghost use Rattle.model_core.specs.TypedUnitParts.{is_typed_object};
     ghost use Rattle.core_tree.specs.apparatus.CoreUnitCode.{coded_object};
 
     ghost Value = { m.DeclaredObject };
@@ -123,7 +138,7 @@ impl Model for CoreObject {
 impl Model for CoreFunction {
     ghost use Rattle.std.specs.Prelude.{IsTrue};
     ghost use Rattle.model_core.specs.Core as m;
-    ghost use Rattle.core_tree.specs.CoreNodes.{is_typed_function};
+    ghost use Rattle.model_core.specs.TypedUnitParts.{is_typed_function};
     ghost use Rattle.core_tree.specs.apparatus.CoreUnitCode.{coded_function};
 
     ghost Value = { m.Function };
