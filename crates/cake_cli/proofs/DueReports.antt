@@ -17,7 +17,7 @@ use Rattle.model_preprocessing.specs.PreprocessedUnit.{Prepared, preprocessed, u
 use Rattle.model_preprocessing.specs.Processes.{Stop, broken, passed, unread, Log, Refusal, Process, gives}
 use Rattle.cake_cli.specs.Verdict.{Verdict, Stopped, NotBuilt, IsCore, HasForm, IsVerdictOn, IsVerdictOf, IsVerdict}
 use Rattle.cake_cli.specs.Words.{Plan}
-use Rattle.cake_cli.specs.Answer.{Answer, Usage, answer_to_stop, answer_to, expanded, IsAnswerIn}
+use Rattle.cake_cli.specs.Answer.{Answer, Usage, answer_to_stop, answer_to, marks_of, expanded, IsAnswerIn}
 use Rattle.pp_directives.specs.declared.errors.PrepError.{PrepError}
 use Rattle.pp_directives.specs.declared.errors.PrepError.TheVariants as prep_error
 use Rattle.pp_directives.specs.Outcomes.{halted, Stops, Runs}
@@ -108,8 +108,8 @@ every_verdict (Err refusal) = (Stopped refusal.stop, refl)
 
 pub answer_in : (mode : Mode) (done : Result Prepared Refusal) → (due : Answer) × IsAnswerIn mode done due
 answer_in Expand done = (expanded done, refl)
-answer_in Translate done = let v = every_verdict done in (answer_to Translate (log_of done) v.0, (v.0, v.1, refl))
-answer_in Check done = let v = every_verdict done in (answer_to Check (log_of done) v.0, (v.0, v.1, refl))
+answer_in Translate done = let v = every_verdict done in (answer_to Translate (log_of done) (marks_of done) v.0, (v.0, v.1, refl))
+answer_in Check done = let v = every_verdict done in (answer_to Check (log_of done) (marks_of done) v.0, (v.0, v.1, refl))
 
 due_in : (told : Option Held) (c : Call) (plan : Plan) → (due : Answer) × IsDueIn told c.files c.files' plan due
 due_in (Some held) c plan = answer_in plan.mode (preprocessed held plan.options plan.file)

@@ -23,3 +23,4 @@ pub mod AnswerLaws
 pub mod ReadCounts
 pub mod UntoldReads
 pub mod UnitForms
+pub mod CarriedUnits

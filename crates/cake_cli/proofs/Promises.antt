@@ -2,6 +2,7 @@
 use Rattle.std.proofs.Common.{◌≡◌, ◌≢◌, ◌⊎◌, ℕ, ◌≤◌, List, [], length, Option, Some, None, Result, Ok, Err, refl, sym, ap, ◌∙◌, subst, inl, inr, arith}
 use Rattle.std.proofs.lemmas.List.{append-nil}
 use Rattle.std.proofs.Math.Seq.{take-length}
+use Rattle.cake_base.specs.declared.rules.Mark.{Mark}
 use Rattle.cake_base.specs.Outside.{Held, appended}
 use Rattle.cake_cli.specs.declared.modes.Mode.{Mode}
 use Rattle.cake_cli.specs.declared.modes.Mode.TheVariants.{Translate, Expand, Check}
@@ -9,7 +10,7 @@ use Rattle.model_preprocessing.specs.PreprocessedUnit.{Prepared, preprocessed, l
 use Rattle.model_preprocessing.specs.Processes.{Stop, broken, passed, unread, Log, Refusal}
 use Rattle.cake_cli.specs.Verdict.{Verdict, Stopped, NotBuilt, IsCore}
 use Rattle.cake_cli.specs.Words.{Plan}
-use Rattle.cake_cli.specs.Answer.{Delivery, Answer, Usage, Unreadable, Refused, Unbuilt, Limited, Written, err_text, answer_to_stop, answer_to, expanded, IsAnswerIn}
+use Rattle.cake_cli.specs.Answer.{Delivery, Answer, Usage, Unreadable, Refused, Unbuilt, Limited, RefusedByFindings, Written, err_text, answer_to_stop, answer_to, marks_of, expanded, IsAnswerIn}
 use Rattle.cake_cli.specs.declared.status.Status.{Status}
 use Rattle.cake_cli.specs.declared.status.Status.TheVariants as status
 use Rattle.cake_cli.specs.Call.{Call, IsDueIn, IsDue}
@@ -41,6 +42,7 @@ written_only (Unreadable log name) text e ne = absurd (ne e)
 written_only (Refused log fault) text e ne = absurd (ne e)
 written_only (Unbuilt log place) text e ne = absurd (ne e)
 written_only (Limited log hit) text e ne = absurd (ne e)
+written_only (RefusedByFindings log unit) text e ne = absurd (ne e)
 written_only (Written log delivery) text d ne = (log, delivery, refl, d)
 
 appended-nil : (content : Option (List ℕ)) → appended content [] ≡ content
@@ -57,6 +59,7 @@ due_puts_nothing (Unreadable log name) text c ne e o = nothing_put text c e o
 due_puts_nothing (Refused log fault) text c ne e o = nothing_put text c e o
 due_puts_nothing (Unbuilt log place) text c ne e o = nothing_put text c e o
 due_puts_nothing (Limited log hit) text c ne e o = nothing_put text c e o
+due_puts_nothing (RefusedByFindings log unit) text c ne e o = nothing_put text c e o
 due_puts_nothing (Written log delivery) text c ne e o = absurd (ne refl)
 
 -- each status is that of one kind of answer
@@ -66,6 +69,7 @@ refused_due (Unreadable log name) e = absurd (let h : status.ReadFault ≡ statu
 refused_due (Refused log fault) e = tt
 refused_due (Unbuilt log place) e = tt
 refused_due (Limited log hit) e = absurd (let h : status.Limit ≡ status.Refused = e in cc)
+refused_due (RefusedByFindings log unit) e = tt
 refused_due (Written log delivery) e = absurd (let h : status.Written ≡ status.Refused = e in cc)
 
 unreadable_due : (due : Answer) → status_of due ≡ status.ReadFault → IsUnreadable due
@@ -74,6 +78,7 @@ unreadable_due (Unreadable log name) e = tt
 unreadable_due (Refused log fault) e = absurd (let h : status.Refused ≡ status.ReadFault = e in cc)
 unreadable_due (Unbuilt log place) e = absurd (let h : status.Refused ≡ status.ReadFault = e in cc)
 unreadable_due (Limited log hit) e = absurd (let h : status.Limit ≡ status.ReadFault = e in cc)
+unreadable_due (RefusedByFindings log unit) e = absurd (let h : status.Refused ≡ status.ReadFault = e in cc)
 unreadable_due (Written log delivery) e = absurd (let h : status.Written ≡ status.ReadFault = e in cc)
 
 limited_due : (due : Answer) → status_of due ≡ status.Limit → IsLimited due
@@ -82,6 +87,7 @@ limited_due (Unreadable log name) e = absurd (let h : status.ReadFault ≡ statu
 limited_due (Refused log fault) e = absurd (let h : status.Refused ≡ status.Limit = e in cc)
 limited_due (Unbuilt log place) e = absurd (let h : status.Refused ≡ status.Limit = e in cc)
 limited_due (Limited log hit) e = tt
+limited_due (RefusedByFindings log unit) e = absurd (let h : status.Refused ≡ status.Limit = e in cc)
 limited_due (Written log delivery) e = absurd (let h : status.Written ≡ status.Limit = e in cc)
 
 due_refused : (due : Answer) → IsRefused due → status_of due ≡ status.Refused
@@ -90,6 +96,7 @@ due_refused (Unreadable log name) i = absurd i
 due_refused (Refused log fault) i = refl
 due_refused (Unbuilt log place) i = refl
 due_refused (Limited log hit) i = absurd i
+due_refused (RefusedByFindings log unit) i = refl
 due_refused (Written log delivery) i = absurd i
 
 due_unreadable : (due : Answer) → IsUnreadable due → status_of due ≡ status.ReadFault
@@ -98,6 +105,7 @@ due_unreadable (Unreadable log name) i = refl
 due_unreadable (Refused log fault) i = absurd i
 due_unreadable (Unbuilt log place) i = absurd i
 due_unreadable (Limited log hit) i = absurd i
+due_unreadable (RefusedByFindings log unit) i = absurd i
 due_unreadable (Written log delivery) i = absurd i
 
 due_limited : (due : Answer) → IsLimited due → status_of due ≡ status.Limit
@@ -106,6 +114,7 @@ due_limited (Unreadable log name) i = absurd i
 due_limited (Refused log fault) i = absurd i
 due_limited (Unbuilt log place) i = absurd i
 due_limited (Limited log hit) i = refl
+due_limited (RefusedByFindings log unit) i = absurd i
 due_limited (Written log delivery) i = absurd i
 
 -- written
@@ -116,6 +125,7 @@ puts_text (Unreadable log name) text c e d o = absurd (let h : status.Written �
 puts_text (Refused log fault) text c e d o = absurd (let h : status.Written ≡ status.Refused = e in cc)
 puts_text (Unbuilt log place) text c e d o = absurd (let h : status.Written ≡ status.Refused = e in cc)
 puts_text (Limited log hit) text c e d o = absurd (let h : status.Written ≡ status.Limit = e in cc)
+puts_text (RefusedByFindings log unit) text c e d o = absurd (let h : status.Written ≡ status.Refused = e in cc)
 puts_text (Written log delivery) text c e d o = (log, delivery, refl, text, d, o)
 
 written_by : (plan : Result Plan ℕ) (due : Answer) (c : Call) (result : Status) → Outcome plan due c result → result ≡ status.Written → PutsText due c
@@ -144,6 +154,7 @@ err_of_due plan (Unreadable log name) c e = inl (tt, e)
 err_of_due plan (Refused log fault) c e = e
 err_of_due plan (Unbuilt log place) c e = e
 err_of_due plan (Limited log hit) c e = e
+err_of_due plan (RefusedByFindings log unit) c e = e
 err_of_due plan (Written log delivery) c e = e
 
 failed_text : (plan : Result Plan ℕ) (p : Plan) (c : Call) (text : List ℕ) → plan ≡ Ok p → IsFailedText (Ok p) c text → IsFailedText plan c text
@@ -184,10 +195,10 @@ stop_isnt_usage log (broken fault) e = let h : status.Refused ≡ status.Usage =
 stop_isnt_usage log (passed hit) e = let h : status.Limit ≡ status.Usage = e in cc
 stop_isnt_usage log (unread file cause) e = let h : status.ReadFault ≡ status.Usage = e in cc
 
-verdict_isnt_usage : (mode : Mode) (log : Log) (v : Verdict) → status_of (answer_to mode log v) ≡ status.Usage → ⊥
-verdict_isnt_usage mode log (Stopped stop) e = stop_isnt_usage log stop e
-verdict_isnt_usage mode log (NotBuilt unit place) e = let h : status.Refused ≡ status.Usage = e in cc
-verdict_isnt_usage mode log (IsCore unit core) e = let h : status.Written ≡ status.Usage = e in cc
+verdict_isnt_usage : (mode : Mode) (log : Log) (marks : List Mark) (v : Verdict) → status_of (answer_to mode log marks v) ≡ status.Usage → ⊥
+verdict_isnt_usage mode log marks (Stopped stop) e = stop_isnt_usage log stop e
+verdict_isnt_usage mode log marks (NotBuilt unit place) e = let h : status.Refused ≡ status.Usage = e in cc
+verdict_isnt_usage mode log marks (IsCore unit core) e = let h : status.Written ≡ status.Usage = e in cc
 
 expanded_isnt_usage : (done : Result Prepared Refusal) → status_of (expanded done) ≡ status.Usage → ⊥
 expanded_isnt_usage (Ok unit) e = let h : status.Written ≡ status.Usage = e in cc
@@ -195,8 +206,8 @@ expanded_isnt_usage (Err refusal) e = stop_isnt_usage refusal.log refusal.stop e
 
 answer_isnt_usage : (mode : Mode) (done : Result Prepared Refusal) (due : Answer) → IsAnswerIn mode done due → status_of due ≡ status.Usage → ⊥
 answer_isnt_usage Expand done due is e = expanded_isnt_usage done (sym (ap status_of is) ∙ e)
-answer_isnt_usage Translate done due (v, is, a) e = verdict_isnt_usage Translate (log_of done) v (sym (ap status_of a) ∙ e)
-answer_isnt_usage Check done due (v, is, a) e = verdict_isnt_usage Check (log_of done) v (sym (ap status_of a) ∙ e)
+answer_isnt_usage Translate done due (v, is, a) e = verdict_isnt_usage Translate (log_of done) (marks_of done) v (sym (ap status_of a) ∙ e)
+answer_isnt_usage Check done due (v, is, a) e = verdict_isnt_usage Check (log_of done) (marks_of done) v (sym (ap status_of a) ∙ e)
 
 due_isnt_usage : (told : Option Held) (c : Call) (p : Plan) (due : Answer) → IsDueIn told c.files c.files' p due → status_of due ≡ status.Usage → ⊥
 due_isnt_usage (Some held) c p due is e = answer_isnt_usage p.mode (preprocessed held p.options p.file) due is e
@@ -253,6 +264,7 @@ no_write_fault (Unreadable log name) e = let h : status.WriteFault ≡ status.Re
 no_write_fault (Refused log fault) e = let h : status.WriteFault ≡ status.Refused = e in cc
 no_write_fault (Unbuilt log place) e = let h : status.WriteFault ≡ status.Refused = e in cc
 no_write_fault (Limited log hit) e = let h : status.WriteFault ≡ status.Limit = e in cc
+no_write_fault (RefusedByFindings log unit) e = let h : status.WriteFault ≡ status.Refused = e in cc
 no_write_fault (Written log delivery) e = let h : status.WriteFault ≡ status.Written = e in cc
 
 write_fault_by : (plan : Result Plan ℕ) (due : Answer) (c : Call) (result : Status) → Outcome plan due c result → result ≡ status.WriteFault → PutFailed due c
@@ -274,6 +286,7 @@ no_memory_due (Unreadable log name) e = let h : status.NoMemory ≡ status.ReadF
 no_memory_due (Refused log fault) e = let h : status.NoMemory ≡ status.Refused = e in cc
 no_memory_due (Unbuilt log place) e = let h : status.NoMemory ≡ status.Refused = e in cc
 no_memory_due (Limited log hit) e = let h : status.NoMemory ≡ status.Limit = e in cc
+no_memory_due (RefusedByFindings log unit) e = let h : status.NoMemory ≡ status.Refused = e in cc
 no_memory_due (Written log delivery) e = let h : status.NoMemory ≡ status.Written = e in cc
 
 memory_by : (plan : Result Plan ℕ) (due : Answer) (c : Call) (result : Status) → Outcome plan due c result → result ≡ status.NoMemory → AreRead plan × NothingOnOut c × NothingOnErr c

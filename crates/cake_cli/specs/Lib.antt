@@ -3,6 +3,7 @@ pub mod Verdict
 pub mod ExpandedText
 pub mod RuleTexts
 pub mod ReportLines
+pub mod Accepted
 pub mod Answer
 pub mod Codes
 pub mod WordsRead

@@ -11,7 +11,7 @@ use Rattle.cake_cli.specs.ExpandedText.{expanded_text}
 use Rattle.model_preprocessing.specs.Processes.{Log}
 use Rattle.cake_cli.specs.ReportLines.{name_in}
 use Rattle.cake_cli.specs.Words.{Plan}
-use Rattle.cake_cli.specs.Answer.{Delivery, AText, Tokens, NoText, Answer, Usage, Unreadable, Refused, Unbuilt, Limited, Written, err_text}
+use Rattle.cake_cli.specs.Answer.{Delivery, AText, NoText, Tokens, Answer, Usage, Unreadable, Refused, Unbuilt, Limited, RefusedByFindings, Written, err_text}
 use Rattle.model_preprocessing.specs.PreprocessedUnit.{asked}
 use Rattle.pp_directives.specs.Promise.{Kept, RoseBy, FailsAt}
 use Rattle.cake_cli.specs.Call.{Call, IsDue}
@@ -67,6 +67,7 @@ IsWritten due = (log : Log) × (delivery : Delivery) × (due ≡ Written log del
 abbrev pub IsRefused : Answer → Type 0
 IsRefused (Refused log fault) = Unit {0}
 IsRefused (Unbuilt log place) = Unit {0}
+IsRefused (RefusedByFindings log unit) = Unit {0}
 IsRefused (Usage number) = ⊥
 IsRefused (Unreadable log name) = ⊥
 IsRefused (Limited log hit) = ⊥
@@ -78,6 +79,7 @@ IsUnreadable (Usage number) = ⊥
 IsUnreadable (Refused log fault) = ⊥
 IsUnreadable (Unbuilt log place) = ⊥
 IsUnreadable (Limited log hit) = ⊥
+IsUnreadable (RefusedByFindings log unit) = ⊥
 IsUnreadable (Written log delivery) = ⊥
 
 abbrev pub IsLimited : Answer → Type 0
@@ -86,6 +88,7 @@ IsLimited (Usage number) = ⊥
 IsLimited (Unreadable log name) = ⊥
 IsLimited (Refused log fault) = ⊥
 IsLimited (Unbuilt log place) = ⊥
+IsLimited (RefusedByFindings log unit) = ⊥
 IsLimited (Written log delivery) = ⊥
 
 -- a read that preprocessing asks for failed in this call, and its count of faults rose
@@ -118,9 +121,9 @@ pub record Delivers (core : Core) (text : List ℕ) : Type 0 where
 
 -- a text that out may get
 abbrev pub IsDelivered : Delivery → List ℕ → Type 0
-IsDelivered (AText core) text = Delivers core text
+IsDelivered (AText unit) text = Delivers unit.core text
+IsDelivered (NoText unit) text = text ≡ []
 IsDelivered (Tokens tokens) text = text ≡ expanded_text tokens
-IsDelivered NoText text = text ≡ []
 
 -- a text of what is written was put on out
 abbrev pub PutsText : Answer → Call → Type 0

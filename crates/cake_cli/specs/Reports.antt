@@ -2,13 +2,14 @@
 use Rattle.std.specs.Prelude.{◌≡◌, ◌≢◌, ◌⊎◌, ℕ, List, [], Option, Some, None, Result, Ok}
 use Rattle.model_tokens.specs.declared.tokens.CTok.{CTok}
 use Rattle.cake_base.specs.declared.places.Place.{Place}
+use Rattle.cake_base.specs.declared.rules.Mark.{Mark}
 use Rattle.cake_cli.specs.declared.modes.Mode.{Mode}
 use Rattle.model_preprocessing.specs.PreprocessedUnit.{Prepared}
 use Rattle.model_preprocessing.specs.Processes.{Stop, broken, passed, unread, Log, Refusal}
 use Rattle.cake_cli.specs.ReportLines.{name_in}
 use Rattle.cake_cli.specs.Verdict.{Verdict, IsVerdictOn, IsVerdict}
 use Rattle.cake_cli.specs.Words.{Plan}
-use Rattle.cake_cli.specs.Answer.{Answer, Usage, Unreadable, Refused, Unbuilt, Limited, Written, err_text, answer_to_stop, answer_to, IsAnswerIn}
+use Rattle.cake_cli.specs.Answer.{Answer, Usage, Unreadable, Refused, Unbuilt, Limited, RefusedByFindings, Written, err_text, answer_to_stop, answer_to, IsAnswerIn}
 use Rattle.pp_directives.specs.declared.errors.PrepError.{PrepError}
 use Rattle.pp_directives.specs.declared.errors.PrepError.TheVariants as prep_error
 use Rattle.pp_directives.specs.Promise.{FailsAt}
@@ -25,6 +26,7 @@ status_of (Unreadable log name) = status.ReadFault
 status_of (Refused log fault) = status.Refused
 status_of (Unbuilt log place) = status.Refused
 status_of (Limited log hit) = status.Limit
+status_of (RefusedByFindings log unit) = status.Refused
 status_of (Written log delivery) = status.Written
 
 -- what an answer puts on out
@@ -34,6 +36,7 @@ IsOutText (Unreadable log name) text = text ≡ []
 IsOutText (Refused log fault) text = text ≡ []
 IsOutText (Unbuilt log place) text = text ≡ []
 IsOutText (Limited log hit) text = text ≡ []
+IsOutText (RefusedByFindings log unit) text = text ≡ []
 IsOutText (Written log delivery) text = IsDelivered delivery text
 
 -- the report of an answer
@@ -42,12 +45,12 @@ pub record IsReport (due : Answer) (r : Report) : Type 0 where
   pub out : IsOutText due r.out
   pub err : r.err ≡ err_text due
 
--- the report on tokens of C, and on a unit that is preprocessed
+-- the report on tokens of C, whatever the marks of their unit, and on a unit that is preprocessed
 abbrev pub ReportsTokens : Mode → Log → List CTok → (end : Place) → Report → Type 0
-ReportsTokens mode log tokens end r = (verdict : Verdict) × IsVerdictOn tokens end verdict × IsReport (answer_to mode log verdict) r
+ReportsTokens mode log tokens end r = (verdict : Verdict) × IsVerdictOn tokens end verdict × ((marks : List Mark) → IsReport (answer_to mode log marks verdict) r)
 
 abbrev pub ReportsUnit : Mode → Log → Prepared → Report → Type 0
-ReportsUnit mode log unit r = (verdict : Verdict) × IsVerdict (Ok unit) verdict × IsReport (answer_to mode log verdict) r
+ReportsUnit mode log unit r = (verdict : Verdict) × IsVerdict (Ok unit) verdict × IsReport (answer_to mode log unit.marks verdict) r
 
 abbrev pub ReportsDone : Mode → Result Prepared Refusal → Report → Type 0
 ReportsDone mode done r = (due : Answer) × IsAnswerIn mode done due × IsReport due r

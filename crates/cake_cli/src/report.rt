@@ -1,6 +1,8 @@
 //! What is put on the sinks, built whole before the first put.
-ghost use Rattle.std.specs.Prelude.{◌≡◌, IfOk, Ok};
+ghost use Rattle.std.specs.Prelude.{◌≡◌, List, IfOk, Ok};
 ghost use Rattle.cake_base.specs.declared.places.Place.{Place};
+ghost use Rattle.cake_base.specs.declared.rules.Mark.{Mark};
+ghost use Rattle.cake_cli.specs.Accepted.{accepted};
 ghost use Rattle.cake_cli.specs.Answer.{Refused, Unbuilt, Limited, Written, delivery_of};
 ghost use Rattle.c_model.specs.FirstUnit.{UnitPlaces, returning};
 ghost use Rattle.cake_cli.specs.ReportLines.{notes_text};
@@ -100,7 +102,7 @@ fn written(alloc: Global, log: &PrepLog, out: Bytes) -> Result<Report, NoMemory>
 
 /// What goes to out of a unit that returns this value.
 fn unit_text(alloc: Global, mode: Mode, value: &Expr) -> Result<Bytes, NoMemory>
-    ensures { IfOk result (λ text. (places : UnitPlaces) → IsDelivered (delivery_of mode (returning (expr_of value.now) places)) text) }
+    ensures { IfOk result (λ text. (places : UnitPlaces) (marks : List Mark) → IsDelivered (delivery_of mode (accepted (returning (expr_of value.now) places) marks)) text) }
 {
     match mode {
         Mode::Translate => text_of(alloc, value),

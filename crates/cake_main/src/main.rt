@@ -1,6 +1,8 @@
 //! The command over real files and streams.
 #![tactic(auto)]
 
+#[cfg(test)]
+mod command_tests;
 mod files;
 mod sinks;
 #[cfg(test)]

@@ -9,7 +9,7 @@ use Rattle.own_flow.specs.PossibleState.{Gives, Possible, start, along}
 use Rattle.own_flow.specs.declared.nodes.Node.{Node}
 use Rattle.own_flow.specs.Chains.{edge_at, no_edge}
 use Rattle.own_flow.specs.Nodes.{node_number, row_width, NodeFits}
-use Rattle.own_flow.specs.Marks.{left, due, Marked, Grown}
+use Rattle.own_flow.specs.Marks.{unseen, due, Marked, Grown}
 use Rattle.own_flow.specs.Exploration.{Search, Grew, Just, MadeOf, numbers, IsExplored, degree, step_cost}
 use Rattle.own_flow.proofs.Growth.{grown_weak}
 use Rattle.own_flow.proofs.Grew.{numbers_end}
@@ -28,7 +28,7 @@ pub record Exploring (places points : ℕ) (edges : List Edge) (s : Search) (bef
   pub same_places : s.places ≡ places
   pub same_points : s.points ≡ points
   pub inv : Inv (Next places points edges) (points * row_width places) s.marks (numbers s)
-  pub budget : now + left (number_cost places edges) s.marks + due (number_cost places edges) (numbers s) ≤ before + 5 * places * length edges
+  pub budget : now + unseen (number_cost places edges) s.marks + due (number_cost places edges) (numbers s) ≤ before + 5 * places * length edges
 
 abbrev pub Root : Node
 Root = record { point = 0; fact = Reached }
@@ -69,7 +69,7 @@ explore_step places points edges s t u node before now later h e f g c =
           let b = r.budget (number_cost places edges) in
           let d = due_last (number_cost places edges) (numbers s) (numbers t) (node_number places node) all in
           let n = node_cost places points edges node fit in
-          let m : left (number_cost places edges) s.marks ≡ left (number_cost places edges) t.marks = ap (left (number_cost places edges)) marks in
+          let m : unseen (number_cost places edges) s.marks ≡ unseen (number_cost places edges) t.marks = ap (unseen (number_cost places edges)) marks in
           omega (arith, b, c, d, n, m, h.budget);
     }
 
@@ -83,13 +83,13 @@ explore_cost places points edges s t node before now later h e f c =
     omega (arith, c, d, n, h.budget)
 
 abbrev pub work : Search → ℕ
-work s = left (λ i. 1) s.marks + due (λ i. 1) (numbers s)
+work s = unseen (λ i. 1) s.marks + due (λ i. 1) (numbers s)
 
 pub explore_less : (edges : List Edge) (s t u : Search) (node : Node) → s ≡ record t { waiting = t.waiting ++ node ∷ [] } → Grew (MadeOf t.places edges node) t u → work u < work s
 explore_less edges s t u node e g =
     let all : numbers s ≡ numbers t ++ node_number t.places node ∷ [] = ap numbers e ∙ numbers_end t.places t.waiting node in
     let l = step_less (node_number t.places node) (MadeOf t.places edges node) t.marks (numbers s) (numbers t) u.marks (numbers u) all g.grown in
-    let m : left (λ i. 1) s.marks ≡ left (λ i. 1) t.marks = ap (λ (z : Search). left (λ i. 1) z.marks) e in
+    let m : unseen (λ i. 1) s.marks ≡ unseen (λ i. 1) t.marks = ap (λ (z : Search). unseen (λ i. 1) z.marks) e in
     omega (arith, l, m)
 
 -- what is reached by numbers is possible

@@ -1,7 +1,7 @@
 -- How marks grow.
 use Rattle.std.proofs.Common.{◌≡◌, ℕ, zero, suc, ◌+◌, Bool, true, false, List, [], ◌∷◌, ◌++◌, length, Some, refl, sym, ap, ◌∙◌, subst, ◌⊎◌, inl, inr, ⊎_elim, arith}
 use Rattle.std.specs.Prelude.{slice_get, slice_set}
-use Rattle.own_flow.specs.Marks.{left, due, Marked, Marks, Among, Grown}
+use Rattle.own_flow.specs.Marks.{unseen, due, Marked, Marks, Among, Grown}
 
 pub among_left : (xs ys : List ℕ) (x : ℕ) → Among xs x → Among (xs ++ ys) x
 among_left [] ys x h = absurd (h)
@@ -22,10 +22,10 @@ due_end w (x ∷ xs) j = omega (arith, due_end w xs j)
 some_is : (a b : Bool) → Some a ≡ Some b → a ≡ b
 some_is a b h = cc
 
-pub left_set : (w : ℕ → ℕ) (seen : List Bool) (j : ℕ) → slice_get seen j ≡ Some false → left w (slice_set seen j true) + w j ≡ left w seen
-left_set w [] j h = absurd (cc)
-left_set w (b ∷ bs) zero h = let e : b ≡ false = some_is b false h in rw e (omega arith)
-left_set w (b ∷ bs) (suc j) h = omega (arith, left_set (λ i. w (suc i)) bs j h)
+pub unseen_set : (w : ℕ → ℕ) (seen : List Bool) (j : ℕ) → slice_get seen j ≡ Some false → unseen w (slice_set seen j true) + w j ≡ unseen w seen
+unseen_set w [] j h = absurd (cc)
+unseen_set w (b ∷ bs) zero h = let e : b ≡ false = some_is b false h in rw e (omega arith)
+unseen_set w (b ∷ bs) (suc j) h = omega (arith, unseen_set (λ i. w (suc i)) bs j h)
 
 set_self : (seen : List Bool) (j : ℕ) → slice_get seen j ≡ Some false → Marked (slice_set seen j true) j
 set_self [] j h = absurd (cc)
@@ -67,7 +67,7 @@ grown_mark j seen waiting seen' waiting' h = ⊎_elim
       waits = λ x m. ⊎_elim (λ a. inl a) (λ e. inr (among_right waiting (j ∷ []) x (inl e))) (set_from seen j x m);
       stays = λ x m. among_left waiting (j ∷ []) x m;
       marked = λ x m. ⊎_elim (λ a. inl a) (λ b. ⊎_elim (λ e. inr (subst (λ y. Marked (slice_set seen j true) y) (sym e) (set_self seen j k.0))) (λ z. absurd (z)) b) (among_split waiting (j ∷ []) x m);
-      budget = λ w. let p = left_set w seen j k.0 in let q = due_end w waiting j in omega (arith, p, q);
+      budget = λ w. let p = unseen_set w seen j k.0 in let q = due_end w waiting j in omega (arith, p, q);
     })))
     h
 

@@ -1,7 +1,7 @@
 -- The search on numbers: what is marked is reached, and goes on unless it waits.
 use Rattle.std.proofs.Common.{◌≡◌, ℕ, zero, suc, ◌+◌, ◌<◌, Bool, false, List, [], ◌∷◌, ◌++◌, length, refl, sym, ap, ◌∙◌, subst, ◌⊎◌, inl, inr, ⊎_elim, arith}
 use Rattle.std.specs.Prelude.{replicate}
-use Rattle.own_flow.specs.Marks.{left, due, Marked, Among, Grown}
+use Rattle.own_flow.specs.Marks.{unseen, due, Marked, Among, Grown}
 use Rattle.own_flow.proofs.Growth.{among_left, among_right, among_split, due_end}
 
 abbrev pub falses : ℕ → List Bool
@@ -65,5 +65,5 @@ inv_done Next count seen (j ∷ js) e h = absurd (omega (arith, e))
 pub due_last : (w : ℕ → ℕ) (all k : List ℕ) (i : ℕ) → all ≡ k ++ i ∷ [] → due w all ≡ due w k + w i
 due_last w all k i e = ap (due w) e ∙ due_end w k i
 
-pub step_less : (i : ℕ) (A : ℕ → Type 0) (s : List Bool) (all k : List ℕ) (s' : List Bool) (k' : List ℕ) → all ≡ k ++ i ∷ [] → Grown A s k s' k' → left (λ i. 1) s' + due (λ i. 1) k' < left (λ i. 1) s + due (λ i. 1) all
+pub step_less : (i : ℕ) (A : ℕ → Type 0) (s : List Bool) (all k : List ℕ) (s' : List Bool) (k' : List ℕ) → all ≡ k ++ i ∷ [] → Grown A s k s' k' → unseen (λ i. 1) s' + due (λ i. 1) k' < unseen (λ i. 1) s + due (λ i. 1) all
 step_less i A s all k s' k' e g = let d = due_last (λ i. 1) all k i e in omega (arith, d, g.budget (λ i. 1))

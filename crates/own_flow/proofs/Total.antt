@@ -9,7 +9,7 @@ use Rattle.own_flow.specs.declared.flow.Fact.TheVariants.{Reached, Has}
 use Rattle.own_flow.specs.declared.nodes.Node.{Node}
 use Rattle.own_flow.specs.Chains.{edge_at}
 use Rattle.own_flow.specs.Nodes.{node_number, row_width, NodeFits, fact_number, state_number}
-use Rattle.own_flow.specs.Marks.{left}
+use Rattle.own_flow.specs.Marks.{unseen}
 use Rattle.own_flow.specs.Exploration.{degree, step_cost}
 use Rattle.own_flow.proofs.NodeLaws.{number_point, number_fact}
 use Rattle.own_flow.proofs.Least.{falses}
@@ -36,9 +36,9 @@ sum_first : (n : ℕ) (f : ℕ → ℕ) → sum_below (suc n) f ≡ f 0 + sum_be
 sum_first zero f = omega arith
 sum_first (suc n) f = let i = sum_first n f in omega (arith, i)
 
-left_is : (w : ℕ → ℕ) (n : ℕ) → left w (falses n) ≡ sum_below n w
-left_is w zero = refl
-left_is w (suc n) = let i = left_is (λ i. w (suc i)) n in let f = sum_first n w in omega (arith, i, f)
+unseen_is : (w : ℕ → ℕ) (n : ℕ) → unseen w (falses n) ≡ sum_below n w
+unseen_is w zero = refl
+unseen_is w (suc n) = let i = unseen_is (λ i. w (suc i)) n in let f = sum_first n w in omega (arith, i, f)
 
 sum_same : (f g : ℕ → ℕ) (n : ℕ) → ((i : ℕ) → i < n → f i ≡ g i) → sum_below n f ≡ sum_below n g
 sum_same f g zero h = refl
@@ -106,9 +106,9 @@ degrees points (suc n) edges h =
     let c = sum_one (edge_at edges n).from points (h n (omega arith)) in
     omega (arith, a, b, c)
 
-pub total : (places points : ℕ) (edges : List Edge) → ((k : ℕ) → k < length edges → (edge_at edges k).from < points) → left (number_cost places edges) (falses (points * row_width places)) ≡ 5 * places * length edges
+pub total : (places points : ℕ) (edges : List Edge) → ((k : ℕ) → k < length edges → (edge_at edges k).from < points) → unseen (number_cost places edges) (falses (points * row_width places)) ≡ 5 * places * length edges
 total places points edges h =
-    let a = left_is (number_cost places edges) (points * row_width places) in
+    let a = unseen_is (number_cost places edges) (points * row_width places) in
     let b = rows (5 * places) points (λ p. degree edges p (length edges)) (number_cost places edges)
     (λ p t l. ap (λ m. cond (m == 0) 0 (degree edges ((p * row_width places + t) / row_width places) (length edges))) (mod-mul-add p (row_width places) t l)
     ∙ ap (λ q. cond (t == 0) 0 (degree edges q (length edges))) (div-mul-add p (row_width places) t l)) in

@@ -2,9 +2,9 @@
 use Rattle.std.specs.Prelude.{◌≡◌, ℕ, suc, ◌+◌, Bool, true, false, cond, List, [], ◌∷◌, ◌++◌, length, slice_get, slice_set, Some, ◌⊎◌}
 
 -- the weight of what isn't marked
-abbrev pub left : (ℕ → ℕ) → List Bool → ℕ
-left w [] = 0
-left w (b ∷ bs) = cond b 0 (w 0) + left (λ i. w (suc i)) bs
+abbrev pub unseen : (ℕ → ℕ) → List Bool → ℕ
+unseen w [] = 0
+unseen w (b ∷ bs) = cond b 0 (w 0) + unseen (λ i. w (suc i)) bs
 
 -- the weight of what waits
 abbrev pub due : (ℕ → ℕ) → List ℕ → ℕ
@@ -31,4 +31,4 @@ pub record Grown (A : ℕ → Type 0) (seen : List Bool) (waiting : List ℕ) (s
   pub waits : (x : ℕ) → Marked seen' x → Marked seen x ⊎ Among waiting' x
   pub stays : (x : ℕ) → Among waiting x → Among waiting' x
   pub marked : (x : ℕ) → Among waiting' x → Among waiting x ⊎ Marked seen' x
-  pub budget : (w : ℕ → ℕ) → left w seen' + due w waiting' ≡ left w seen + due w waiting
+  pub budget : (w : ℕ → ℕ) → unseen w seen' + due w waiting' ≡ unseen w seen + due w waiting
