@@ -1,36 +1,25 @@
 //! The built-in functions and their types.
-ghost use Rattle.std.specs.Prelude.{◌≡◌, IfOk, [], ◌∷◌, false};
+ghost use Rattle.std.specs.Prelude.{◌≡◌, IfOk, [], ◌∷◌};
 ghost use Rattle.model_types.specs.Types as t;
 ghost use Rattle.model_core.specs.CoreTypes as p;
 ghost use Rattle.model_core.specs.BuiltinTypes as m;
 ghost use Rattle.model_scopes.specs.DeclarationRules as r;
-ghost use Rattle.c_types.specs.Forms.{form_of};
 
 use c_types::{CType, TypeForm, TypeList};
 use cake_base::NoMemory;
+use check_types::plain;
 use model_types::numbers::Basic;
 use model_types::types::Quals;
 use std::alloc::Global;
 
-/// Qualifiers, of which `_Owner` and `_Opt` stand or don't.
-fn quals(owner: bool) -> Quals
-    ensures { result ≡ record { has_const = false; has_restrict = false; has_owner = owner; has_view = false; has_opt = owner } }
-{
-    Quals {
-        has_const: false,
-        has_restrict: false,
-        has_owner: owner,
-        has_view: false,
-        has_opt: owner,
-    }
-}
-
-/// An unqualified type.
-fn plain(alloc: Global, form: TypeForm) -> Result<CType, NoMemory>
-    ensures { IfOk result (λ made. made ≡ p.plain (form_of form)) }
-{
-    CType::new(alloc, form, quals(false))
-}
+/// `_Owner _Opt`.
+const OWNER: Quals = Quals {
+    has_const: false,
+    has_restrict: false,
+    has_owner: true,
+    has_view: false,
+    has_opt: true,
+};
 
 fn size_type(alloc: Global) -> Result<CType, NoMemory>
     ensures { IfOk result (λ made. made ≡ m.size_type) }
@@ -49,7 +38,7 @@ fn block_type(alloc: Global) -> Result<CType, NoMemory>
     ensures { IfOk result (λ made. made ≡ m.owned_pointer) }
 {
     let target = plain(alloc, TypeForm::Void)?;
-    CType::new(alloc, TypeForm::Pointer(target), quals(true))
+    CType::new(alloc, TypeForm::Pointer(target), OWNER)
 }
 
 /// The parameter list of one type.

@@ -8,9 +8,9 @@ use Rattle.model_scopes.specs.Declarations.{Declaration}
 use Rattle.model_grammar.specs.SyntaxForms as syntax
 use Rattle.model_core.specs.CoreTypes.{int_type, result_of_form}
 use Rattle.model_core.specs.Core as unit
-use Rattle.model_checking.specs.State.{Use, Evaluated, Unevaluated, State, Waiting, Body, Both, Answer, Reached, gives, then_do, in_scopes, note_type}
-use Rattle.model_checking.specs.ParameterDeclarations.{is_parameter, declare_entry}
-use Rattle.model_checking.specs.Reading.{Ends, both, with_both, leaves_out_since}
+use Rattle.model_checking.specs.State.{Use, Evaluated, Unevaluated, State, Waiting, Body, Both, both, with_both, Answer, Reached, gives, then_do, in_scopes, note_type}
+use Rattle.model_checking.specs.ParameterDeclarations.{is_parameter, declare_entry, leaves_out_since}
+use Rattle.model_checking.specs.Reading.{Ends}
 use Rattle.model_checking.specs.Scoping.{Scoped, entered, closed}
 use Rattle.model_checking.specs.Surroundings.{in_function}
 use Rattle.model_checking.specs.Statements.{block}

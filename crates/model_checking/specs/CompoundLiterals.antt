@@ -1,6 +1,6 @@
 -- Compound literals (ISO/IEC 9899:2024, 6.5.3.6): in a block an object of it that gets its values each time, at file scope
 -- an object of static storage.
-use Rattle.std.specs.Prelude.{ℕ, Bool, true, false, ◌||◌, List, [], ◌∷◌, ◌++◌, Option, Some, None}
+use Rattle.std.specs.Prelude.{Bool, true, false, ◌||◌, List, Option, Some, None}
 use Rattle.cake_base.specs.declared.places.Place.{Place}
 use Rattle.cake_base.specs.declared.rules.Fault.{Fault}
 use Rattle.model_types.specs.declared.marks.Origin.TheVariants.{Written}
@@ -8,34 +8,18 @@ use Rattle.model_types.specs.declared.marks.Mark.{Mark}
 use Rattle.model_types.specs.Types.{CType, form_of_type}
 use Rattle.model_types.specs.Structures.{Structure}
 use Rattle.model_types.specs.Layout.{is_complete}
-use Rattle.model_scopes.specs.Scopes.{drawn, is_outermost}
+use Rattle.model_scopes.specs.Scopes.{is_outermost}
 use Rattle.model_core.specs.Core as unit
-use Rattle.model_checking.specs.State.{Use, Evaluated, Unevaluated, Made, State, Answer, gives, then_do}
+use Rattle.model_checking.specs.State.{Use, State, Answer, gives, then_do}
 use Rattle.model_checking.specs.Meanings.{Meaning, a_place}
 use Rattle.model_checking.specs.Parts.{GivenItems, in_braces}
 use Rattle.model_checking.specs.Faults.{wants}
+use Rattle.model_checking.specs.Literals.{with_made, made_object, with_automatic}
 use Rattle.model_checking.specs.Initializing.{Initialized, initialized, is_without_length}
 
 -- C22 at the first token of the type name: a complete type, or an array that gets its length from the braces
 abbrev pub literal_fault : List Structure → (first : Place) → CType → Option Fault
 literal_fault structs first type = wants (is_complete structs type || is_without_length (form_of_type type)) first 22
-
-abbrev pub is_evaluated : Use → Bool
-is_evaluated Evaluated = true
-is_evaluated Unevaluated = false
-
--- one made object more, in a new id
-abbrev pub with_made : Made → State → State
-with_made made s = record s { scopes = drawn s.scopes; made = s.made ++ made ∷ [] }
-
--- the automatic objects of a block are those that are evaluated in it
-abbrev pub with_automatic : Use → (id : ℕ) → State → State
-with_automatic Evaluated id s = record s { automatic = s.automatic ++ id ∷ [] }
-with_automatic Unevaluated id s = s
-
-abbrev pub made_object : Use → (id : ℕ) → Mark → CType → Option unit.Initials → Made
-made_object usage id mark type values =
-    record { id = id; type = type; place = mark.at; text = None; values = values; is_evaluated = is_evaluated usage }
 
 -- at file scope, or in a block
 abbrev pub object_made : (is_static : Bool) → Use → Mark → Initialized → State → Answer Meaning

@@ -2,13 +2,14 @@
 -- declares, then its initializer is read, and then the object has its type and its values. What is left of it are the
 -- initializations of automatic objects.
 use Rattle.std.specs.Prelude.{Bool, true, false, List, [], ◌∷◌, ◌++◌, Option, Some, None, is_some}
+use Rattle.cake_base.specs.declared.rules.Fault.{Fault}
 use Rattle.model_grammar.specs.declared.syntax.Name.{Name}
 use Rattle.model_grammar.specs.SyntaxForms as syntax
 use Rattle.model_core.specs.CoreTypes.{type_of}
 use Rattle.model_core.specs.Core as unit
-use Rattle.model_checking.specs.State.{Use, State, Answer, gives, then_do, and_then, unless}
+use Rattle.model_checking.specs.State.{Use, State, with_both, Answer, gives, then_do, and_then, unless}
 use Rattle.model_checking.specs.Parts.{Specified}
-use Rattle.model_checking.specs.FaultsBeside.{with_fault}
+use Rattle.model_checking.specs.FaultsBeside.{fault_at, with_fault}
 use Rattle.model_checking.specs.DeclarationContexts.{Context}
 use Rattle.model_checking.specs.DeclarationSpecifiers.{declaration_specifiers}
 use Rattle.model_checking.specs.Tags.{is_lone}
@@ -17,8 +18,9 @@ use Rattle.model_checking.specs.DeclaratorTypes.{declarator}
 use Rattle.model_checking.specs.Declaring.{Bound, bind}
 use Rattle.model_checking.specs.Inference.{inference_fault, name_fault, bind_inferred}
 use Rattle.model_checking.specs.Settling.{with_initializer}
-use Rattle.model_checking.specs.OwnName.{names_itself}
-use Rattle.model_checking.specs.Reading.{Ends, with_both, as_operand, ended_value, named_first, specs_place}
+use Rattle.model_checking.specs.OwnName.{names_itself, declares_again}
+use Rattle.model_checking.specs.Reading.{Ends, as_operand, named_first, specs_place}
+use Rattle.model_checking.specs.ReadInitializers.{ended_value}
 use Rattle.model_checking.specs.Elaborated.{expr, types_in, derivations, initializer, assertion}
 use Rattle.model_checking.specs.FullExpressions.{ended}
 
@@ -57,9 +59,14 @@ each_declared r c u given s (syntax.more_init_declarators first others) =
 
 -- ---- `auto`: the one declarator has the type of its value, which the bodies of the literals in that see
 
+-- C02 at an enumerator of its name in the value, which is declared behind it, although its type isn't known before
+abbrev again_fault : Option Name → syntax.Expr → Option Fault
+again_fault None e = None
+again_fault (Some name) e = fault_at (declares_again name.text (syntax.Single e)) 2
+
 abbrev inferred : Ends → Context → Use → syntax.Specs → Specified → State → syntax.InitDeclarators → Answer (List unit.Stat)
 inferred r c u specs given s (syntax.more_init_declarators (syntax.init_declarator d (syntax.an_initializer (syntax.Single e))) others) =
-    then_do (as_operand e (expr u s e)) (λ o s.
+    then_do (with_fault (again_fault (declarator_name d) e) (as_operand e (expr u s e))) (λ o s.
     then_do (bind_inferred u c specs given (named_first d) d (type_of o.value) s) (λ b s.
     with_both (ended_value o s (r s)) (λ value s. as_list (with_initializer b value s))))
 inferred r c u specs given s _ = gives [] s

@@ -1,6 +1,6 @@
 -- The type of a declarator (ISO/IEC 9899:2024, 6.7.7.2 to 6.7.7.4): its steps, the last one first, from the type of the
 -- specifiers. Each constraint is asked where the type that it is about is known, whether or not other parts are faulty.
-use Rattle.std.specs.Prelude.{ℕ, not, List, [], ◌∷◌, Option, Some, None, option_map, Ok, Err, if◌then◌else◌}
+use Rattle.std.specs.Prelude.{ℕ, not, List, [], ◌∷◌, Option, Some, None, option_map, if◌then◌else◌}
 use Rattle.cake_base.specs.declared.places.Place.{Place}
 use Rattle.cake_base.specs.declared.rules.Fault.{Fault}
 use Rattle.model_types.specs.Types.{CType, Array, Function, types, form_of_type}
@@ -14,12 +14,12 @@ use Rattle.model_grammar.specs.declared.syntax.Name.{Name}
 use Rattle.model_grammar.specs.declared.syntax.Qualifier.{Qualifier}
 use Rattle.model_scopes.specs.Declarations.{Declaration}
 use Rattle.model_grammar.specs.SyntaxForms as syntax
-use Rattle.model_checking.specs.State.{State, Answer, gives, then_do}
+use Rattle.model_checking.specs.State.{State, Both, both}
 use Rattle.model_checking.specs.Parts.{Specified, Declared}
 use Rattle.model_checking.specs.Faults.{or_fault}
-use Rattle.model_checking.specs.FaultsBeside.{first_of_faults, fault_if, fault_at, with_fault}
+use Rattle.model_checking.specs.FaultsBeside.{first_of_faults, fault_if, fault_at}
 use Rattle.model_checking.specs.Qualified.{qualified, qualifier_fault, meeting_fault}
-use Rattle.model_checking.specs.Derivations.{Derivation, a_pointer, an_array, a_function, a_faulty_array, a_faulty_function, outline, entries_of}
+use Rattle.model_checking.specs.Derivations.{Derivation, a_pointer, an_array, a_function, a_faulty_array, a_faulty_function, Steps, entries_of}
 use Rattle.model_checking.specs.DeclaratorNames.{declarator_name}
 
 -- the type that steps give, where it is known, and the first fault among them
@@ -54,13 +54,16 @@ result_fault first result = fault_if (not (is_value_form (form_of_type result)))
 abbrev pub pointed : List Qualifier → CType → Typing
 pointed qualifiers type = typing (Some (qualified qualifiers (pointer_to type))) (qualifier_fault qualifiers (pointer_to type))
 
+-- an array whose length is faulty counts as one of no elements, by which nothing is too large, and a function with a
+-- faulty parameter as one of those before it
 abbrev pub step : List Structure → (first : Place) → Derivation → CType → Typing
 step structs first (a_pointer qualifiers) type = pointed qualifiers type
 step structs first (an_array length) type = typed_unless (array_fault structs first type length) (plain (Array type length))
 step structs first (a_function parameters is_variadic entries) type =
     typed_unless (result_fault first type) (plain (Function type (types parameters) is_variadic))
-step structs first a_faulty_array type = typing None (element_fault structs first type)
-step structs first (a_faulty_function is_variadic) type = typing None (result_fault first type)
+step structs first a_faulty_array type = typed_unless (element_fault structs first type) (plain (Array type (Some 0)))
+step structs first (a_faulty_function count parameters is_variadic entries) type =
+    typed_unless (result_fault first type) (plain (Function type (types parameters) is_variadic))
 
 -- of a type that isn't known, or is to be inferred
 abbrev pub step_from_unknown : Derivation → Typing
@@ -103,31 +106,27 @@ own_parameters_fault d = void_fault d.parameters
 
 -- ---- a declarator
 
--- its steps, or where one of them is faulty, what the tree shows of them
-abbrev pub steps_or_outline : syntax.Declarator → Answer (List Derivation) → List Derivation
-steps_or_outline d (Ok both) = both.made
-steps_or_outline d (Err fault) = outline d
-
 abbrev pub place_of : Option Name → (first : Place) → Place
 place_of (Some name) first = name.place
 place_of None first = first
 
-abbrev pub declared_by : Specified → (first : Place) → Option Name → Option CType → List Derivation → Declared
-declared_by given first name type ds = record {
+abbrev pub declared_by : Specified → (first : Place) → Option Name → List Derivation → Typing → Declared
+declared_by given first name ds t = record {
   name = option_map (λ n. n.text) name;
   place = place_of name first;
-  type = type;
+  type = t.type;
   storage = given.storage;
   first = first;
   parameters = entries_of ds;
+  fault = t.fault;
 }
 
-abbrev pub steps_fault : List Structure → (first : Place) → Option CType → List Derivation → Option Fault
-steps_fault structs first base ds = first_of_faults (derived structs first base ds).fault (inner_void_faults ds)
+-- the type that the steps give, and the first fault of them all
+abbrev pub steps_typing : List Structure → (first : Place) → Option CType → Steps → Typing
+steps_typing structs first base ds =
+    beside (first_of_faults ds.fault (inner_void_faults ds.steps)) (derived structs first base ds.steps)
 
--- the answer is the steps, and the state the one before them: what is complete there counts
-abbrev pub declarator : Specified → (first : Place) → syntax.Declarator → (before : State) → Answer (List Derivation) → Answer Declared
-declarator given first d before answer =
-    with_fault (steps_fault before.scopes.structs first given.type (steps_or_outline d answer))
-    (then_do answer (λ ds s.
-    gives (declared_by given first (declarator_name d) (derived before.scopes.structs first given.type ds).type ds) s))
+-- the state is the one before the steps: what is complete there counts
+abbrev pub declarator : Specified → (first : Place) → syntax.Declarator → (before : State) → Both Steps → Both Declared
+declarator given first d before x =
+    both (declared_by given first (declarator_name d) x.made.steps (steps_typing before.scopes.structs first given.type x.made)) x.state

@@ -1,6 +1,6 @@
 -- The constraints at the name that a declarator declares (ISO/IEC 9899:2024, 6.2.2, 6.7, 6.9.1, 6.9.2, 5.1.2.3.2): the
 -- smallest broken rule. Those that need no type are asked whether or not the declarator is faulty.
-use Rattle.std.specs.Prelude.{ℕ, Bool, false, ◌&&◌, ◌||◌, not, List, Option, Some, None, is_some, option_map, codes, if◌then◌else◌}
+use Rattle.std.specs.Prelude.{ℕ, nat_eq, Bool, false, ◌&&◌, ◌||◌, not, List, Option, Some, None, is_some, option_map, codes, if◌then◌else◌}
 use Rattle.cake_base.specs.declared.places.Place.{Place}
 use Rattle.cake_base.specs.declared.rules.Fault.{Fault}
 use Rattle.model_types.specs.declared.numbers.Basic.TheVariants.{Char}
@@ -16,7 +16,7 @@ use Rattle.model_scopes.specs.DeclarationRules.{broken_rule, earlier, standing, 
 use Rattle.model_grammar.specs.declared.syntax.Name.{Name}
 use Rattle.model_grammar.specs.SyntaxForms as syntax
 use Rattle.model_checking.specs.FaultsBeside.{first_of_faults, fault_if}
-use Rattle.model_checking.specs.Derivations.{is_function_declarator, is_variadic_declarator}
+use Rattle.model_checking.specs.Derivations.{is_function_declarator, is_variadic_declarator, own_parameter_count}
 use Rattle.model_checking.specs.DeclaredNames.{Setting, gives_value, is_body, declaration, untyped_declaration}
 
 -- ---- C37: a body follows no function declarator; a parameter of a definition is void or incomplete
@@ -56,8 +56,16 @@ is_type_of_main type =
     same_typedef type (main_type no_types)
     || same_typedef type (main_type (more_types int_type (more_types (pointer_to (pointer_to (plain (Integer Char)))) no_types)))
 
+abbrev pub declares_main : Declaration → Bool
+declares_main d = same_text d.name (codes "main") && has_linkage d
+
 abbrev pub is_bad_main : Declaration → Bool
-is_bad_main d = same_text d.name (codes "main") && has_linkage d && not (is_type_of_main d.ty)
+is_bad_main d = declares_main d && not (is_type_of_main d.ty)
+
+-- where a parameter is faulty, of so many of which the type has those before it
+abbrev pub may_be_main : (count : ℕ) → CType → Bool
+may_be_main count type =
+    nat_eq count 2 && (same_typedef type (main_type no_types) || same_typedef type (main_type (more_types int_type no_types)))
 
 -- ---- the smallest
 
@@ -91,6 +99,17 @@ untyped_rule g d x s =
 
 abbrev pub typed_name_rule : Setting → syntax.Declarator → CType → Scopes → Name → Option ℕ
 typed_name_rule g d type s name = typed_rule s.structs g d (declaration g name type s) s
+
+-- C37 and C47 of a faulty declarator, as far as its type is known
+abbrev pub form_rule : List Structure → Setting → syntax.Declarator → Declaration → Option ℕ
+form_rule structs g d x =
+    or_rule (rule_if (is_body g.ending && has_bad_parameter structs (form_of_type x.ty)) 37)
+    (rule_if (declares_main x && not (may_be_main (own_parameter_count d) x.ty)) 47)
+
+-- of a declarator that is faulty or not
+abbrev pub known_name_rule : Option Fault → Setting → syntax.Declarator → CType → Scopes → Name → Option ℕ
+known_name_rule None g d type s name = typed_name_rule g d type s name
+known_name_rule (Some fault) g d type s name = form_rule s.structs g d (declaration g name type s)
 
 abbrev pub untyped_name_rule : Setting → (given : Option CType) → syntax.Declarator → Scopes → Name → Option ℕ
 untyped_name_rule g given d s name = untyped_rule g d (untyped_declaration g given d name s) s

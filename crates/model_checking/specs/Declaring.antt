@@ -4,7 +4,7 @@ use Rattle.std.specs.Prelude.{ℕ, Bool, true, false, ◌&&◌, ◌||◌, not, L
 use Rattle.cake_base.specs.declared.places.Place.{Place}
 use Rattle.cake_base.specs.declared.rules.Fault.{Fault}
 use Rattle.model_types.specs.Types as t
-use Rattle.model_types.specs.Types.{CType, typed, form_of_type}
+use Rattle.model_types.specs.Types.{CType, form_of_type}
 use Rattle.model_types.specs.Structures.{Structure}
 use Rattle.model_types.specs.Layout.{is_complete}
 use Rattle.model_scopes.specs.declared.declarations.Kind.{Kind}
@@ -14,14 +14,14 @@ use Rattle.model_scopes.specs.Scopes.{Scopes}
 use Rattle.model_scopes.specs.Declaring.{id_of, declare, note_initialized}
 use Rattle.model_grammar.specs.declared.syntax.Name.{Name}
 use Rattle.model_grammar.specs.SyntaxForms as syntax
-use Rattle.model_checking.specs.State.{Use, State, Answer, gives, breaks, unless, then_do, in_scopes, note_type}
+use Rattle.model_checking.specs.State.{Use, State, Both, Answer, gives, breaks, unless, in_scopes, note_type}
 use Rattle.model_checking.specs.Parts.{Specified, Declared}
 use Rattle.model_checking.specs.FaultsBeside.{first_of_faults, fault_if, with_fault}
 use Rattle.model_checking.specs.DeclarationContexts.{Context, of_definition}
 use Rattle.model_checking.specs.DeclaratorNames.{declarator_name, rule_at}
 use Rattle.model_checking.specs.DeclaratorTypes.{own_parameters_fault}
 use Rattle.model_checking.specs.DeclaredNames.{Setting, Ending, no_value, an_initializer, a_body, gives_value, is_body, kind_of, declaration, declares_function}
-use Rattle.model_checking.specs.DeclaredNameRules.{typed_name_rule, untyped_name_rule, body_faults, result_fault}
+use Rattle.model_checking.specs.DeclaredNameRules.{known_name_rule, untyped_name_rule, body_faults, result_fault}
 
 -- what a declarator has bound: its declaration with its id, its first token, whether it has `constexpr`, and what is
 -- declared in the scope of its own parameters
@@ -111,16 +111,17 @@ bound_with u g x d s = gives (bound_as g x d (id_of d s.scopes)) (state_with u g
 
 abbrev pub bound : Use → Setting → (uses_itself : Bool) → syntax.Declarator → Declared → Name → CType → State → Answer Bound
 bound u g uses_itself d x name type s =
-    with_fault (rule_at (typed_name_rule g d type s.scopes) (Some name))
+    with_fault (rule_at (known_name_rule x.fault g d type s.scopes) (Some name))
+    (with_fault x.fault
     (unless (declarator_faults s.scopes.structs g x uses_itself (declaration g name type s.scopes))
-    (bound_with u g x (declaration g name type s.scopes) s))
+    (bound_with u g x (declaration g name type s.scopes) s)))
 
--- a function whose type is to be inferred is none (C31)
+-- of a faulty declarator no type is known; a function whose type is to be inferred is none (C31)
 abbrev pub bound_if : Use → Setting → (uses_itself : Bool) → syntax.Declarator → Declared → Option Name → Option CType → State → Answer Bound
 bound_if u g uses_itself d x (Some name) (Some type) s = bound u g uses_itself d x name type s
-bound_if u g uses_itself d x name type s = breaks x.first 31
+bound_if u g uses_itself d x name type s = unless x.fault (breaks x.first 31)
 
--- ---- a declarator, whose answer is what it declares; the state is the one before it
+-- ---- a declarator, with what it gives; the state is the one before it
 
 -- C22 of a function with an initializer, C31 of one whose type is to be inferred, and C32, as far as they need no type
 abbrev pub untyped_faults : (first : Place) → (infers : Bool) → Kind → Setting → (uses_itself : Bool) → Option Fault
@@ -131,25 +132,25 @@ untyped_faults first infers kind g uses_itself =
 abbrev pub untyped_kind : Setting → Specified → syntax.Declarator → Kind
 untyped_kind g given d = kind_of g.storage (declares_function given.type d)
 
-abbrev pub bind_in : Use → Setting → (uses_itself : Bool) → Specified → (first : Place) → syntax.Declarator → (before : State) → Answer Declared → Answer Bound
-bind_in u g uses_itself given first d before answer =
+abbrev pub bind_in : Use → Setting → (uses_itself : Bool) → Specified → (first : Place) → syntax.Declarator → (before : State) → Both Declared → Answer Bound
+bind_in u g uses_itself given first d before x =
     with_fault (rule_at (untyped_name_rule g given.type d before.scopes) (declarator_name d))
     (with_fault (untyped_faults first (not (is_some given.type)) (untyped_kind g given d) g uses_itself)
-    (then_do answer (λ x s. bound_if u g uses_itself d x (declarator_name d) x.type s)))
+    (bound_if u g uses_itself d x.made (declarator_name d) x.made.type x.state))
 
 abbrev pub ending_of : syntax.MaybeInitializer → Ending
 ending_of syntax.no_initializer = no_value
 ending_of (syntax.an_initializer initializer) = an_initializer
 
 -- of a declaration; `uses_itself` says that the initializer names what is declared
-abbrev pub bind : Use → Context → (uses_itself : Bool) → Specified → (first : Place) → syntax.Declarator → syntax.MaybeInitializer → (before : State) → Answer Declared → Answer Bound
-bind u context uses_itself given first d initializer before answer =
-    bind_in u (record { context = context; storage = given.storage; ending = ending_of initializer }) uses_itself given first d before answer
+abbrev pub bind : Use → Context → (uses_itself : Bool) → Specified → (first : Place) → syntax.Declarator → syntax.MaybeInitializer → (before : State) → Both Declared → Answer Bound
+bind u context uses_itself given first d initializer before x =
+    bind_in u (record { context = context; storage = given.storage; ending = ending_of initializer }) uses_itself given first d before x
 
 -- of the definition of a function
-abbrev pub bind_function : Use → Specified → (first : Place) → syntax.Declarator → (before : State) → Answer Declared → Answer Bound
-bind_function u given first d before answer =
-    bind_in u (record { context = of_definition; storage = given.storage; ending = a_body }) false given first d before answer
+abbrev pub bind_function : Use → Specified → (first : Place) → syntax.Declarator → (before : State) → Both Declared → Answer Bound
+bind_function u given first d before x =
+    bind_in u (record { context = of_definition; storage = given.storage; ending = a_body }) false given first d before x
 
 -- ---- a function literal
 

@@ -1,7 +1,7 @@
 -- What the expressions, type names, specifiers, declarators and initializers of a tree mean at a point of a unit
 -- (ISO/IEC 9899:2024, 6.5, 6.7): one function for each kind of tree, from the left to the right. The rules of a form are
 -- functions of its parts; those that name its left part alone stand before its right part.
-use Rattle.std.specs.Prelude.{ℤ, Bool, false, List, [], ◌∷◌, ◌++◌, Option, Some, None}
+use Rattle.std.specs.Prelude.{ℤ, Bool, false, List, [], Option, Some, None}
 use Rattle.cake_base.specs.declared.places.Place.{Place}
 use Rattle.model_types.specs.declared.numbers.Basic.{Basic}
 use Rattle.model_types.specs.Structures.{Member}
@@ -9,7 +9,8 @@ use Rattle.model_types.specs.Types.{CType, Types}
 use Rattle.model_grammar.specs.SyntaxForms as syntax
 use Rattle.model_core.specs.Core as unit
 use Rattle.c_tree.specs.SyntaxPlaces.{expr_first}
-use Rattle.model_checking.specs.State.{Use, Unevaluated, State, Both, Answer, gives, then_do, unless, beside, with_state}
+use Rattle.model_checking.specs.State.{Use, Unevaluated, State, Both, both, with_both, Answer, gives, then_do, unless, beside, with_state}
+use Rattle.model_checking.specs.FaultsBeside.{first_of_faults, with_fault}
 use Rattle.model_checking.specs.Meanings.{Meaning}
 use Rattle.model_checking.specs.Parts.{Specified, Declared, Given, in_braces, GivenStep, to_member, GivenItems, no_given}
 use Rattle.model_checking.specs.Marks.{mark_of, in_parentheses}
@@ -30,10 +31,11 @@ use Rattle.model_checking.specs.DeclarationContexts.{of_parameter, of_member, of
 use Rattle.model_checking.specs.SpecifierTypes.{specifiers, typeof_type, typedef_type}
 use Rattle.model_checking.specs.Structures.{struct_tag, struct_begun, member as next_member, struct_completed}
 use Rattle.model_checking.specs.Enumerations.{fixed_type, enum_tag, enum_begun, Enumeration, enumerator}
-use Rattle.model_checking.specs.Derivations.{Derivation, with_pointers}
+use Rattle.model_checking.specs.Derivations.{Steps, no_steps, and_steps, behind_pointers, array_step, outline_of_suffixes, count_of_parameters}
 use Rattle.model_checking.specs.DeclaratorTypes.{declarator, own_parameters_fault}
-use Rattle.model_checking.specs.ParameterDeclarations.{begin_parameters, parameter, function_derivation}
-use Rattle.model_checking.specs.Reading.{Ends, waits, both, with_both, as_operand, as_constant, asserted_of, count_of, type_name_place, first_or, named_first, declared_type, note_declared, or_type, given_type, an_array_of, is_alone, with_type, without_parameters, function_literal, single_given, element_step, steps_behind, item_given, braces_place}
+use Rattle.model_checking.specs.ParameterDeclarations.{begin_parameters, parameter, Parameters, no_parameters_behind, and_parameters, function_step}
+use Rattle.model_checking.specs.Reading.{Ends, waits, as_operand, as_constant, asserted_of, count_of, type_name_place, first_or, named_first, declared_type, note_declared, or_type, given_type, an_array_of, is_alone, function_literal, braces_place}
+use Rattle.model_checking.specs.ReadInitializers.{single_given, element_step, steps_behind, item_given}
 
 abbrev mutual
   pub expr : Use → State → syntax.Expr → Answer Meaning
@@ -45,7 +47,7 @@ abbrev mutual
   expr u s (syntax.Parenthesized inner place) = then_do (expr u s inner) (λ m s. gives (in_parentheses place m) s)
   expr u s (syntax.CompoundLiteral name values place) =
       then_do (type_name u s name) (λ d s.
-      unless (literal_fault s.scopes.structs d.first (declared_type d))
+      unless (first_of_faults (literal_fault s.scopes.structs d.first (declared_type d)) d.fault)
       (with_both (braces waits u s values) (λ items s.
       compound_literal u d.first (mark_of (syntax.CompoundLiteral name values place)) (declared_type d) items (braces_place values) s)))
   expr u s (syntax.FunctionLiteral name body place) =
@@ -74,14 +76,15 @@ abbrev mutual
       with_state (size_of_operand s.scopes.structs (mark_of (syntax.SizeofExpr e place)) (expr_first e) m) s)
   expr u s (syntax.SizeofType name place) =
       then_do (type_name Unevaluated s name) (λ d s.
-      with_state (size_of_name s.scopes.structs (mark_of (syntax.SizeofType name place)) d.first (declared_type d)) s)
+      with_fault d.fault (with_state (size_of_name s.scopes.structs (mark_of (syntax.SizeofType name place)) d.first (declared_type d)) s))
   expr u s (syntax.Alignof name place) =
       then_do (type_name Unevaluated s name) (λ d s.
-      with_state (alignment_of_name s.scopes.structs (mark_of (syntax.Alignof name place)) d.first (declared_type d)) s)
+      with_fault d.fault (with_state (alignment_of_name s.scopes.structs (mark_of (syntax.Alignof name place)) d.first (declared_type d)) s))
   expr u s (syntax.Cast name e place) =
       then_do (type_name u s name) (λ d s.
-      then_do (as_operand e (expr u s e)) (λ a s.
-      with_state (cast s.scopes.structs (mark_of (syntax.Cast name e place)) (declared_type d) a) s))
+      unless d.fault
+      (then_do (as_operand e (expr u s e)) (λ a s.
+      with_state (cast s.scopes.structs (mark_of (syntax.Cast name e place)) (declared_type d) a) s)))
   expr u s (syntax.Binary op left right place) =
       then_do (as_operand left (expr u s left)) (λ a s.
       beside (left_fault s.scopes.structs a) (as_operand right (expr u s right)) (λ b s.
@@ -127,7 +130,7 @@ abbrev mutual
 
   -- ---- type names and specifiers
 
-  -- with its first token; the type of a type name is noted where it is evaluated
+  -- with its own fault, if any, so that what stands round it can ask its form; its type is noted where it is evaluated
   pub type_name : Use → State → syntax.TypeName → Answer Declared
   type_name u s (syntax.type_name specs d) =
       then_do (specifiers of_type_name specs (types_in u false s specs)) (λ given s.
@@ -155,7 +158,7 @@ abbrev mutual
   type_in u lone s (syntax.TypeofExpr word e place) =
       then_do (expr Unevaluated s e) (λ m s. gives (Some (typeof_type word (meaning_type m))) s)
   type_in u lone s (syntax.TypeofType word name place) =
-      then_do (type_name Unevaluated s name) (λ d s. unless (own_parameters_fault d) (gives (Some (typeof_type word (declared_type d))) s))
+      then_do (type_name Unevaluated s name) (λ d s. unless (first_of_faults (own_parameters_fault d) d.fault) (gives (Some (typeof_type word (declared_type d))) s))
 
   -- the type behind the `:` of an enumeration
   pub fixed_in : Use → State → (place : Place) → syntax.MaybeSpecs → Answer (Option Basic)
@@ -179,8 +182,8 @@ abbrev mutual
   pub members_declared : Use → Specified → List Member → State → syntax.Declarators → Answer (List Member)
   members_declared u given ms s syntax.no_declarators = gives ms s
   members_declared u given ms s (syntax.more_declarators first others) =
-      then_do (next_member u ms first (declarator given (named_first first) first s (derivations u s first))) (λ ms s.
-      members_declared u given ms s others)
+      with_both (declarator given (named_first first) first s (derivations u s first)) (λ d s.
+      then_do (next_member u ms first d s) (λ ms s. members_declared u given ms s others))
 
   -- the enumerators of an enumeration behind one of a value; its type
   pub enumerators_in : Use → Enumeration → (previous : Option ℤ) → State → syntax.Enumerators → Answer (Option CType)
@@ -191,33 +194,31 @@ abbrev mutual
   -- ---- declarators
 
   -- what a declarator derives from a type, from its name outwards
-  pub derivations : Use → State → syntax.Declarator → Answer (List Derivation)
-  derivations u s (syntax.Named pointers name suffixes) =
-      then_do (suffixes_in u s suffixes) (λ ds s. gives (with_pointers pointers ds) s)
-  derivations u s (syntax.Unnamed pointers suffixes) =
-      then_do (suffixes_in u s suffixes) (λ ds s. gives (with_pointers pointers ds) s)
+  pub derivations : Use → State → syntax.Declarator → Both Steps
+  derivations u s (syntax.Named pointers name suffixes) = behind_pointers pointers (suffixes_in u s suffixes)
+  derivations u s (syntax.Unnamed pointers suffixes) = behind_pointers pointers (suffixes_in u s suffixes)
   derivations u s (syntax.Grouped pointers inner suffixes place) =
-      then_do (derivations u s inner) (λ inside s.
-      then_do (suffixes_in u s suffixes) (λ ds s. gives (with_pointers pointers (inside ++ ds)) s))
+      behind_pointers pointers (and_steps (derivations u s inner) (outline_of_suffixes suffixes) (λ s. suffixes_in u s suffixes))
 
-  pub suffixes_in : Use → State → syntax.Suffixes → Answer (List Derivation)
-  suffixes_in u s syntax.no_suffixes = gives [] s
+  pub suffixes_in : Use → State → syntax.Suffixes → Both Steps
+  suffixes_in u s syntax.no_suffixes = both no_steps s
   suffixes_in u s (syntax.more_suffixes first others) =
-      then_do (suffix_in u s first) (λ d s. then_do (suffixes_in u s others) (λ ds s. gives (d ∷ ds) s))
+      and_steps (suffix_in u s first) (outline_of_suffixes others) (λ s. suffixes_in u s others)
 
-  pub suffix_in : Use → State → syntax.Suffix → Answer Derivation
-  suffix_in u s (syntax.ArraySuffix length place) = an_array_of length (constant u s length)
+  pub suffix_in : Use → State → syntax.Suffix → Both Steps
+  suffix_in u s (syntax.ArraySuffix length place) = array_step s (an_array_of length (constant u s length))
   suffix_in u s (syntax.FunctionSuffix parameters is_variadic place) =
-      without_parameters s
-      (function_derivation is_variadic (parameters_in u (is_alone parameters is_variadic) (begin_parameters s) parameters))
+      function_step (count_of_parameters parameters) is_variadic s
+      (parameters_in u (is_alone parameters is_variadic) (begin_parameters s) parameters)
 
   -- the types of parameters, which are declared
-  pub parameters_in : Use → (is_alone : Bool) → State → syntax.Parameters → Answer (List CType)
-  parameters_in u alone s syntax.no_parameters = gives [] s
+  pub parameters_in : Use → (is_alone : Bool) → State → syntax.Parameters → Both Parameters
+  parameters_in u alone s syntax.no_parameters = both no_parameters_behind s
   parameters_in u alone s (syntax.more_parameters (syntax.parameter specs d first) others) =
-      then_do (specifiers of_parameter specs (types_in u false s specs)) (λ given s.
-      then_do (parameter alone d s (declarator given (first_or first d) d s (derivations u s d))) (λ t s.
-      then_do (parameters_in u false s others) (λ ts s. gives (with_type t ts) s)))
+      and_parameters s
+      (then_do (specifiers of_parameter specs (types_in u false s specs)) (λ given s.
+      with_both (declarator given (first_or first d) d s (derivations u s d)) (λ x t. parameter alone d s x t)))
+      (λ s. parameters_in u false s others)
 
   -- ---- initializers; what is done at the end of each full expression is given
 

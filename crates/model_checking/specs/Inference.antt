@@ -15,7 +15,7 @@ use Rattle.model_checking.specs.DeclarationContexts.{Context}
 use Rattle.model_checking.specs.Words.{words_of, qualifiers_of}
 use Rattle.model_checking.specs.Qualified.{qualified, qualifier_fault}
 use Rattle.model_checking.specs.DeclaratorNames.{declarator_name, rule_at}
-use Rattle.model_checking.specs.DeclaratorTypes.{declared_by}
+use Rattle.model_checking.specs.DeclaratorTypes.{typing, declared_by}
 use Rattle.model_checking.specs.DeclaredNames.{Setting, an_initializer}
 use Rattle.model_checking.specs.DeclaredNameRules.{untyped_name_rule}
 use Rattle.model_checking.specs.Declaring.{Bound, bound_if, ending_of}
@@ -75,7 +75,7 @@ abbrev pub inferred_fault : syntax.Specs → (value : CType) → Option Fault
 inferred_fault specs value = qualifier_fault (qualifiers_of (words_of specs)) (unqualified value)
 
 abbrev pub inferred : Specified → (first : Place) → syntax.Declarator → CType → Declared
-inferred given first d type = declared_by given first (declarator_name d) (Some type) []
+inferred given first d type = declared_by given first (declarator_name d) [] (typing (Some type) None)
 
 abbrev pub bound_inferred : Use → Context → Specified → (first : Place) → syntax.Declarator → CType → State → Answer Bound
 bound_inferred u context given first d type s =

@@ -45,6 +45,7 @@ pub mod Placing
 pub mod PointerRules
 pub mod Qualified
 pub mod Qualifiers
+pub mod ReadInitializers
 pub mod Reading
 pub mod ScalarCounts
 pub mod Scoping

@@ -1,5 +1,5 @@
 -- Constants and strings (ISO/IEC 9899:2024, 6.4.4, 6.4.5, 6.5.2).
-use Rattle.std.specs.Prelude.{ℕ, ℤ, pos, ◌+◌, Bool, true, false, List, [], ◌∷◌, ◌++◌, length, Some, None}
+use Rattle.std.specs.Prelude.{ℕ, ℤ, pos, ◌+◌, Bool, true, false, List, [], ◌∷◌, ◌++◌, length, Option, Some, None}
 use Rattle.model_types.specs.declared.numbers.Basic.{Basic}
 use Rattle.model_types.specs.declared.numbers.Basic.TheVariants.{Bool as bool, Char}
 use Rattle.model_types.specs.declared.marks.Mark.{Mark}
@@ -45,9 +45,19 @@ text_made usage id bytes mark = record {
   is_evaluated = is_evaluated usage;
 }
 
+-- an object without a name that isn't that of a string
+abbrev pub made_object : Use → (id : ℕ) → Mark → CType → (values : Option unit.Initials) → Made
+made_object usage id mark type values =
+    record { id = id; type = type; place = mark.at; text = None; values = values; is_evaluated = is_evaluated usage }
+
 -- the state with one more object that was made
 abbrev pub with_made : Made → State → State
 with_made made s = record s { scopes = drawn s.scopes; made = s.made ++ made ∷ [] }
+
+-- the automatic objects of a block are those that are evaluated in it
+abbrev pub with_automatic : Use → (id : ℕ) → State → State
+with_automatic Evaluated id s = record s { automatic = s.automatic ++ id ∷ [] }
+with_automatic Unevaluated id s = s
 
 -- a string literal is an object of its own
 abbrev pub text : Use → (bytes : List ℕ) → Mark → State → Answer Meaning

@@ -1,37 +1,40 @@
 -- Whether an initializer names the object that it is for (ISO/IEC 9899:2024, 6.2.1): a name inside is bound to that
--- object where no enumerator or parameter inside has hidden it. The bodies of function literals don't count.
-use Rattle.std.specs.Prelude.{ℕ, Bool, true, false, if◌then◌else◌, List}
+-- object where no enumerator or parameter inside has hidden it. The bodies of function literals don't count. An
+-- enumerator that isn't inside a list of parameters has the object's scope, and declares its name there again.
+use Rattle.std.specs.Prelude.{ℕ, Bool, true, false, if◌then◌else◌, List, Option, Some, None}
+use Rattle.cake_base.specs.declared.places.Place.{Place}
 use Rattle.model_types.specs.Texts.{same_text}
 use Rattle.model_grammar.specs.declared.syntax.Name.{Name}
 use Rattle.model_grammar.specs.SyntaxForms.{Expr, Identifier, Constant, Text, Truth, Nullptr, Parenthesized, CompoundLiteral, FunctionLiteral, Index, Call, Member, Arrow, Step, Unary, SizeofExpr, SizeofType, Alignof, Cast, Binary, Logic, Conditional, Assign, AssignBy, Comma, Exprs, no_exprs, more_exprs, MaybeExpr, no_expr, an_expr, TypeName, type_name, Spec, StorageSpec, FunctionSpec, TypeSpec, QualifierSpec, StructTag, Struct, EnumTag, Enum, TypedefName, TypeofExpr, TypeofType, Specs, no_specs, more_specs, MaybeSpecs, none_of_specs, some_specs, MemberDeclaration, MemberDeclarators, MemberAssertion, MemberDeclarations, no_members, more_members, enumerator, Enumerators, no_enumerators, more_enumerators, Declarator, Named, Unnamed, Grouped, Declarators, no_declarators, more_declarators, Suffix, ArraySuffix, FunctionSuffix, Suffixes, no_suffixes, more_suffixes, parameter, Parameters, no_parameters, more_parameters, Initializer, Single, Braced, Braces, braces, item, InitializerItems, no_items, more_items, ElementDesignator, MemberDesignator, Designators, no_designators, more_designators, Assertion, asserted}
 
--- of the object's name at a point: it is bound to the object; a declaration has hidden it; or it was used while bound
+-- of the object's name at a point: it is bound to the object; a declaration at a place has hidden it; or it was used
+-- while bound
 pub data Sight : Type 0 where
   Bound : Sight
-  Hidden : Sight
+  Hidden : (place : Place) → Sight
   Used : Sight
 
 abbrev used : Sight → Sight
 used Bound = Used
-used Hidden = Hidden
+used (Hidden place) = Hidden place
 used Used = Used
 
-abbrev hidden : Sight → Sight
-hidden Bound = Hidden
-hidden Hidden = Hidden
-hidden Used = Used
+abbrev hidden : Place → Sight → Sight
+hidden place Bound = Hidden place
+hidden place (Hidden former) = Hidden former
+hidden place Used = Used
 
 -- behind a scope: what was hidden in it is so no longer
 abbrev behind : (before after : Sight) → Sight
 behind before Bound = before
-behind before Hidden = before
+behind before (Hidden place) = before
 behind before Used = Used
 
 abbrev at_use : (object : List ℕ) → Name → Sight → Sight
 at_use object name sight = if same_text name.text object then used sight else sight
 
 abbrev at_declaration : (object : List ℕ) → Name → Sight → Sight
-at_declaration object name sight = if same_text name.text object then hidden sight else sight
+at_declaration object name sight = if same_text name.text object then hidden name.place sight else sight
 
 -- the parts of a form, from the left
 abbrev mutual
@@ -156,9 +159,18 @@ abbrev mutual
 
 abbrev is_used : Sight → Bool
 is_used Bound = false
-is_used Hidden = false
+is_used (Hidden place) = false
 is_used Used = true
 
 -- the initializer names the object of this name
 abbrev pub names_itself : (object : List ℕ) → Initializer → Bool
 names_itself object initializer = is_used (in_initializer object Bound initializer)
+
+abbrev hidden_at : Sight → Option Place
+hidden_at Bound = None
+hidden_at (Hidden place) = Some place
+hidden_at Used = None
+
+-- where the initializer declares this name again, as an enumerator in the object's scope
+abbrev pub declares_again : (object : List ℕ) → Initializer → Option Place
+declares_again object initializer = hidden_at (in_initializer object Bound initializer)

@@ -1,8 +1,9 @@
 -- Parameters (ISO/IEC 9899:2024, 6.7.7.4): each is declared in the scope of their list, an array or a function as a
 -- pointer. One without a name is declared without one, so that a list has as many entries of objects as parameters.
-use Rattle.std.specs.Prelude.{ℕ, ◌+◌, nat_eq, Bool, true, false, ◌&&◌, List, [], ◌∷◌, ◌++◌, Option, Some, None, if◌then◌else◌}
+use Rattle.std.specs.Prelude.{ℕ, ◌+◌, nat_eq, Bool, true, false, ◌&&◌, List, [], ◌∷◌, ◌++◌, Option, Some, None, Ok, Err, if◌then◌else◌}
 use Rattle.std.specs.Option.{unwrap_or}
 use Rattle.cake_base.specs.declared.places.Place.{Place}
+use Rattle.cake_base.specs.declared.rules.Fault.{Fault}
 use Rattle.model_types.specs.Types as t
 use Rattle.model_types.specs.Types.{CType, typed}
 use Rattle.model_types.specs.Compatible.{same_quals}
@@ -16,11 +17,11 @@ use Rattle.model_scopes.specs.DeclarationRules.{broken_rule}
 use Rattle.model_scopes.specs.Declaring.{first_declared, declare}
 use Rattle.model_grammar.specs.declared.syntax.Name.{Name}
 use Rattle.model_grammar.specs.SyntaxForms as syntax
-use Rattle.model_checking.specs.State.{State, Answer, gives, unless, then_do, in_scopes}
+use Rattle.model_checking.specs.State.{State, Both, both, with_both, Answer, gives, unless, in_scopes}
 use Rattle.model_checking.specs.Parts as part
 use Rattle.model_checking.specs.FaultsBeside.{with_fault}
 use Rattle.model_checking.specs.DeclaratorNames.{declarator_name, rule_at}
-use Rattle.model_checking.specs.Derivations.{Derivation, a_function}
+use Rattle.model_checking.specs.Derivations.{Derivation, a_function, a_faulty_function, Steps}
 use Rattle.model_checking.specs.DeclaratorTypes.{own_parameters_fault}
 
 -- in the scope of a list
@@ -87,13 +88,32 @@ abbrev pub parameter_if : (is_alone : Bool) → Option Name → part.Declared �
 parameter_if is_alone name d None s = gives None s
 parameter_if is_alone name d (Some type) s = parameter_of is_alone name d type s
 
--- the type of a parameter, where it is one; the state is the one before its declarator, since C01 and C02 at the name count
--- where that is faulty too
-abbrev pub parameter : (is_alone : Bool) → syntax.Declarator → (before : State) → Answer part.Declared → Answer (Option CType)
-parameter is_alone declarator before answer =
+-- the type of a parameter, where it is one; the states are those before and behind its declarator
+abbrev pub parameter : (is_alone : Bool) → syntax.Declarator → (before : State) → part.Declared → State → Answer (Option CType)
+parameter is_alone declarator before d s =
     with_fault (rule_at (parameter_rule before) (declarator_name declarator))
-    (then_do answer (λ d s.
-    with_fault (rule_at (parameter_rule s) (declarator_name declarator)) (parameter_if is_alone (declarator_name declarator) d d.type s)))
+    (with_fault (rule_at (parameter_rule s) (declarator_name declarator))
+    (with_fault d.fault (parameter_if is_alone (declarator_name declarator) d d.type s)))
+
+-- ---- a list of parameters
+
+-- the types of parameters, up to the first that is faulty, and its fault
+pub record Parameters : Type 0 where
+  pub types : List CType
+  pub fault : Option Fault
+
+abbrev pub no_parameters_behind : Parameters
+no_parameters_behind = record { types = []; fault = None }
+
+abbrev with_type : Option CType → List CType → List CType
+with_type (Some type) types = type ∷ types
+with_type None types = types
+
+-- a parameter, and those behind it; the state is the one before it
+abbrev pub and_parameters : (before : State) → Answer (Option CType) → (State → Both Parameters) → Both Parameters
+and_parameters before (Ok x) others =
+    with_both (others x.state) (λ behind s. both (record behind { types = with_type x.made behind.types }) s)
+and_parameters before (Err fault) others = both (record { types = []; fault = Some fault }) before
 
 -- ---- behind the list
 
@@ -102,10 +122,19 @@ abbrev pub entries_in : (scope : ℕ) → List (ℕ × Declared) → List Declar
 entries_in scope [] = []
 entries_in scope (e ∷ es) = if nat_eq e.1.scope scope then e.1.latest ∷ entries_in scope es else entries_in scope es
 
-abbrev pub function_derivation : (is_variadic : Bool) → Answer (List CType) → Answer Derivation
-function_derivation is_variadic answer =
-    then_do answer (λ types s.
-    gives (a_function types is_variadic (entries_in s.scopes.innermost.number s.scopes.declared)) (in_scopes (leave s.scopes) s))
+-- what was drawn since a state is in no block
+abbrev pub leaves_out_since : (before : State) → State → State
+leaves_out_since before s = record s { left_out = s.left_out ++ (before.scopes.ids, s.scopes.ids) ∷ [] }
+
+abbrev function_derivation : Option Fault → (count : ℕ) → (is_variadic : Bool) → List CType → List Declaration → Derivation
+function_derivation None count is_variadic types entries = a_function types is_variadic entries
+function_derivation (Some fault) count is_variadic types entries = a_faulty_function count types is_variadic entries
+
+-- a function of so many parameters as the tree shows; the state is the one before their scope
+abbrev pub function_step : (count : ℕ) → (is_variadic : Bool) → (before : State) → Both Parameters → Both Steps
+function_step count is_variadic before x =
+    both (record { steps = function_derivation x.made.fault count is_variadic x.made.types (entries_in x.state.scopes.innermost.number x.state.scopes.declared) ∷ []; fault = x.made.fault })
+    (leaves_out_since before (in_scopes (leave x.state.scopes) x.state))
 
 -- an entry is a parameter, and no tag or enumerator
 abbrev pub is_object : Kind → Bool

@@ -22,8 +22,8 @@ pub record Specified : Type 0 where
   pub storage : Storage
 
 -- what a declarator gives: its name, if it has one, with the place; its type, but where it is to be inferred; its
--- first token, or that of the specifiers where it has none; and of a function, what is declared in the scope of its
--- parameters
+-- first token, or that of the specifiers where it has none; of a function, what is declared in the scope of its
+-- parameters; and its first fault. Of a faulty one there is a type of the same form, as far as that is known
 pub record Declared : Type 0 where
   pub name : Option (List ℕ)
   pub place : Place
@@ -31,6 +31,7 @@ pub record Declared : Type 0 where
   pub storage : Storage
   pub first : Place
   pub parameters : List Declaration
+  pub fault : Option Fault
 
 -- where a designator leads (6.7.11); a negative index leads nowhere
 pub data GivenStep : Type 0 where

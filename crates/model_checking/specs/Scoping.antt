@@ -12,8 +12,8 @@ abbrev pub entered : (is_literal : Bool) → State → State
 entered is_literal s = record (in_scopes (enter is_literal s.scopes) s) { automatic = [] }
 
 -- behind the innermost scope
-abbrev pub left : (around : State) → State → State
-left around s = record (in_scopes (leave s.scopes) s) { automatic = around.automatic }
+abbrev pub after_scope : (around : State) → State → State
+after_scope around s = record (in_scopes (leave s.scopes) s) { automatic = around.automatic }
 
 -- what a scope holds, and its automatic objects
 pub record Scoped (A : Type 0) : Type 0 where
@@ -22,7 +22,7 @@ pub record Scoped (A : Type 0) : Type 0 where
 
 -- the end of a scope
 abbrev pub closed : {A : Type 0} → (around : State) → Answer A → Answer (Scoped A)
-closed around (Ok x) = gives (record { made = x.made; objects = x.state.automatic }) (left around x.state)
+closed around (Ok x) = gives (record { made = x.made; objects = x.state.automatic }) (after_scope around x.state)
 closed around (Err fault) = Err fault
 
 abbrev pub in_scope : {A : Type 0} → (around : State) → (State → Answer A) → Answer (Scoped A)

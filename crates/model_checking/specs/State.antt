@@ -70,6 +70,12 @@ pub record Both (A : Type 0) : Type 0 where
   pub made : A
   pub state : State
 
+abbrev pub both : {A : Type 0} → A → State → Both A
+both x s = record { made = x; state = s }
+
+abbrev pub with_both : {A B : Type 0} → Both A → (A → State → B) → B
+with_both x go = go x.made x.state
+
 -- what a part is, or its first fault
 abbrev pub Answer : Type 0 → Type 0
 Answer A = Result (Both A) Fault

@@ -98,10 +98,10 @@ with_member_if u members (Some name) (Some type) first s = with_member u members
 with_member_if u members name type first s = gives members s
 
 -- C01 and C02 at the name, beside what the declarator breaks, and C22 at its first token
-abbrev pub member : Use → List Member → syntax.Declarator → Answer part.Declared → Answer (List Member)
-member u members declarator answer =
+abbrev pub member : Use → List Member → syntax.Declarator → part.Declared → State → Answer (List Member)
+member u members declarator d s =
     with_fault (rule_at (member_rule members) (declarator_name declarator))
-    (then_do answer (λ d s. with_member_if u members (declarator_name declarator) d.type d.first s))
+    (with_fault d.fault (with_member_if u members (declarator_name declarator) d.type d.first s))
 
 -- ---- behind the members
 

@@ -6,14 +6,14 @@ use Rattle.model_conditions.specs.declared.conditions.ConditionToken.{ConditionT
 use Rattle.model_conditions.specs.ConditionGrammar.{Condition, constant, unary, binary, choice, CONDITIONAL, Derives}
 use Rattle.model_conditions.specs.ConditionValues as values
 use Rattle.model_conditions.specs.ConditionValues.{Valued, valued, holds}
-use Rattle.model_conditions.specs.apparatus.ConditionReader.{Algebra, given, Filled, whole, read}
+use Rattle.model_conditions.specs.apparatus.ConditionReader.{Algebra, folded, Filled, whole, read}
 use Rattle.model_conditions.specs.apparatus.ConditionFrames.{stands}
 use Rattle.model_conditions.specs.apparatus.ConditionBuilt.{Found, bare, finds}
 use Rattle.model_conditions.specs.Judgement.{Judged, expression, no_expression}
 
 -- what is a condition is read, and what is read is a condition
 
-pub read-complete : {A : Type 0} (alg : Algebra A) (ts : List ConditionToken) (e : Condition) → Derives CONDITIONAL ts e → read alg ts ≡ Some (given alg e)
+pub read-complete : {A : Type 0} (alg : Algebra A) (ts : List ConditionToken) (e : Condition) → Derives CONDITIONAL ts e → read alg ts ≡ Some (folded alg e)
 read-complete {A} alg ts e d =
     let s = stands alg d [] tt [] in
     ap (read alg) (sym (append-nil ts)) ∙ s.reads ∙ ap (λ (f : Filled A). whole f) (s.fills 0 (omega arith))
@@ -26,35 +26,35 @@ read-sound alg ts v q = finds alg (record { frames = []; operand = None }) [] (b
 abbrev pub trees : Algebra Condition
 trees = record { of_constant = constant; of_unary = unary; of_binary = binary; of_choice = choice }
 
-given-tree : (e : Condition) → given trees e ≡ e
-given-tree (constant n) = refl
-given-tree (unary op e) = ap (unary op) (given-tree e)
-given-tree (binary op l r) = ap (λ (z : Condition). binary op z (given trees r)) (given-tree l) ∙ ap (binary op l) (given-tree r)
-given-tree (choice c l r) =
-    ap (λ (z : Condition). choice z (given trees l) (given trees r)) (given-tree c)
-    ∙ ap (λ (z : Condition). choice c z (given trees r)) (given-tree l) ∙ ap (choice c l) (given-tree r)
+folded-tree : (e : Condition) → folded trees e ≡ e
+folded-tree (constant n) = refl
+folded-tree (unary op e) = ap (unary op) (folded-tree e)
+folded-tree (binary op l r) = ap (λ (z : Condition). binary op z (folded trees r)) (folded-tree l) ∙ ap (binary op l) (folded-tree r)
+folded-tree (choice c l r) =
+    ap (λ (z : Condition). choice z (folded trees l) (folded trees r)) (folded-tree c)
+    ∙ ap (λ (z : Condition). choice c z (folded trees r)) (folded-tree l) ∙ ap (choice c l) (folded-tree r)
 
 -- a list of tokens is the condition of one tree at most
 pub Derives-unique : (ts : List ConditionToken) (d e : Condition) → Derives CONDITIONAL ts d → Derives CONDITIONAL ts e → d ≡ e
 Derives-unique ts d e p q =
     let f = read-complete trees ts d p in
     let g = read-complete trees ts e q in
-    let h : given trees d ≡ given trees e = cc in
-    sym (given-tree d) ∙ h ∙ given-tree e
+    let h : folded trees d ≡ folded trees e = cc in
+    sym (folded-tree d) ∙ h ∙ folded-tree e
 
 -- ---- values
 
 abbrev pub computed : Algebra Valued
 computed = record { of_constant = values.of_constant; of_unary = values.of_unary; of_binary = values.of_binary; of_choice = values.of_choice }
 
-given-valued : (e : Condition) → given computed e ≡ valued e
-given-valued (constant n) = refl
-given-valued (unary op e) = ap (values.of_unary op) (given-valued e)
-given-valued (binary op l r) =
-    ap (λ (z : Valued). values.of_binary op z (given computed r)) (given-valued l) ∙ ap (values.of_binary op (valued l)) (given-valued r)
-given-valued (choice c l r) =
-    ap (λ (z : Valued). values.of_choice z (given computed l) (given computed r)) (given-valued c)
-    ∙ ap (λ (z : Valued). values.of_choice (valued c) z (given computed r)) (given-valued l) ∙ ap (values.of_choice (valued c) (valued l)) (given-valued r)
+folded-valued : (e : Condition) → folded computed e ≡ valued e
+folded-valued (constant n) = refl
+folded-valued (unary op e) = ap (values.of_unary op) (folded-valued e)
+folded-valued (binary op l r) =
+    ap (λ (z : Valued). values.of_binary op z (folded computed r)) (folded-valued l) ∙ ap (values.of_binary op (valued l)) (folded-valued r)
+folded-valued (choice c l r) =
+    ap (λ (z : Valued). values.of_choice z (folded computed l) (folded computed r)) (folded-valued c)
+    ∙ ap (λ (z : Valued). values.of_choice (valued c) z (folded computed r)) (folded-valued l) ∙ ap (values.of_choice (valued c) (valued l)) (folded-valued r)
 
 -- what the reader that computes answers
 abbrev pub concluded : Option Valued → Result Bool ConditionRule
@@ -67,7 +67,7 @@ pub Judged-read : (ts : List ConditionToken) (o : Option Valued) → read comput
 Judged-read ts None q = no_expression (λ e d. let r = read-complete computed ts e d in cc) refl
 Judged-read ts (Some v) q =
     let f = read-sound computed ts v q in
-    let w : v ≡ valued f.e = f.value ∙ given-valued f.e in
+    let w : v ≡ valued f.e = f.value ∙ folded-valued f.e in
     expression f.e f.derives (ap (λ (z : Valued). holds z.value) w)
 
 pub record Judges (ts : List ConditionToken) : Type 0 where

@@ -55,8 +55,8 @@ answered macros t (Some asked) rest = before_line (told t (defines asked.name ma
 -- The line with 1 or 0 in the place of each `defined` and its operand, or the first rule that is broken
 -- from the left. The number counts the tokens that are left of the operand before.
 abbrev pub answered_from : List (List ℕ × Macro) → ℕ → List PpToken → Result (List PpToken) ConditionRule
-answered_from macros left [] = Ok []
-answered_from macros (suc left) (t ∷ ts) = answered_from macros left ts
+answered_from macros skip [] = Ok []
+answered_from macros (suc skip) (t ∷ ts) = answered_from macros skip ts
 answered_from macros zero (t ∷ ts) =
     if spells DEFINED t then answered macros t (operand ts) (λ n. answered_from macros n ts)
     else if is_left_out t then Err LeftOut

@@ -13,6 +13,6 @@ pub fn one_tree()
 
 /// There is exactly one judgement on each list of tokens.
 pub fn one_judgement()
-    ensures given { (tokens : List ConditionToken) → Judged tokens (judged tokens) }
+    ensures judges { (tokens : List ConditionToken) → Judged tokens (judged tokens) }
     ensures only { (tokens : List ConditionToken) (answer : Result Bool ConditionRule) → Judged tokens answer → answer ≡ judged tokens }
 {}

@@ -12,6 +12,7 @@ pub mod BuiltinTypes
 pub mod TypedScope
 pub mod StaticValues
 pub mod SourceWords
+pub mod TypedUnitParts
 pub mod TypedCore
 pub mod CoveredObjects
 pub mod MadeNames

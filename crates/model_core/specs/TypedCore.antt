@@ -1,24 +1,17 @@
--- When a core is typed (ISO/IEC 9899:2024, 6.2.2, 6.7 to 6.9): its types are possible, its expressions and
--- statements are typed by themselves and where they stand, no two of its objects and functions have one
--- number, its external names are names of which no two are the same, and its places tell apart what a run can
--- fail at.
-use Rattle.std.specs.Prelude.{ℕ, suc, nat_eq, nat_lt, Bool, true, false, ◌&&◌, not, if◌then◌else◌, List, [], ◌∷◌, ◌++◌, length, codes, take, Option, Some, None, is_some, IsTrue}
+-- When a core is typed (ISO/IEC 9899:2024, 6.2.2, 6.7 to 6.9): its types are possible, its objects and functions are
+-- typed by themselves and where they stand, no two of them have one number, no two external ones have one name, and
+-- its places tell apart what a run can fail at.
+use Rattle.std.specs.Prelude.{ℕ, Bool, true, false, ◌&&◌, not, List, [], ◌∷◌, ◌++◌, Option, Some, None, IsTrue}
 use Rattle.std.specs.List.{list_any, list_all}
 use Rattle.std.specs.Str.{bytes_eq}
-use Rattle.model_types.specs.declared.numbers.Basic.TheVariants.{Char}
-use Rattle.model_types.specs.Types.{CType, typed, Form, Integer, Array, Function, Types, no_types, more_types, form_of_type}
+use Rattle.model_types.specs.Types.{CType, Form, Function, Types, more_types, form_of_type}
 use Rattle.model_types.specs.Layout.{is_complete}
 use Rattle.model_core.specs.CoreTypes.{type_of, is_void, result_of_form}
 use Rattle.model_core.specs.SameTypes.{same_value_type}
-use Rattle.model_core.specs.SourceWords.{is_name}
-use Rattle.model_core.specs.TypedParts.{is_function}
-use Rattle.model_core.specs.TypedExpr.{are_typed_values}
-use Rattle.model_core.specs.TypedStat.{is_typed_stat}
 use Rattle.model_core.specs.PossibleTypes.{is_possible, is_sized, are_structures}
 use Rattle.model_core.specs.InitialParts.{parts_fit}
-use Rattle.model_core.specs.BuiltinTypes.{is_undefined, function_spares_builtins, object_spares_builtins}
-use Rattle.model_core.specs.TypedScope.{Scope, is_among, with_ids, object_is, is_automatic, declares, is_usable, are_complete, expr_stands, values_stand}
-use Rattle.model_core.specs.StaticValues.{are_constant}
+use Rattle.model_core.specs.TypedScope.{Scope, with_ids, object_is, is_automatic, declares, is_usable, are_complete, expr_stands, values_stand}
+use Rattle.model_core.specs.TypedUnitParts.{is_typed_object, is_typed_function, are_distinct, name_of}
 use Rattle.model_core.specs.PartsIn.{PlacesTell}
 use Rattle.model_core.specs.Core as unit
 
@@ -92,27 +85,21 @@ abbrev pub is_parameter_of : CType → Option unit.DeclaredObject → Bool
 is_parameter_of type None = false
 is_parameter_of type (Some o) = is_parameter_storage o.storage && same_value_type o.type type
 
--- the parameters of a function are objects of the types of its form, none of them twice
+-- each parameter of a function is an object of the type that its form has there
 abbrev pub parameters_fit : unit.Core → Types → List ℕ → Bool
-parameters_fit core no_types [] = true
-parameters_fit core (more_types type types) (id ∷ ids) =
-    is_parameter_of type (unit.object_of core.objects id) && not (is_among ids id) && parameters_fit core types ids
-parameters_fit core _ _ = false
+parameters_fit core (more_types type types) (id ∷ ids) = is_parameter_of type (unit.object_of core.objects id) && parameters_fit core types ids
+parameters_fit core types ids = true
 
--- a defined function isn't variadic, and what it takes and gives is complete
-abbrev pub takes_parameters : unit.Core → Form → List ℕ → Bool
-takes_parameters core (Function result parameters false) ids =
+-- what a defined function takes and gives is complete
+abbrev pub parameters_stand : unit.Core → Form → List ℕ → Bool
+parameters_stand core (Function result parameters is_variadic) ids =
     is_usable core.structs result && are_complete core.structs parameters && parameters_fit core parameters ids
-takes_parameters core form ids = false
+parameters_stand core form ids = false
 
-abbrev pub has_none : List ℕ → Bool
-has_none [] = true
-has_none (id ∷ ids) = false
-
-abbrev pub body_fits : unit.Core → unit.Function → unit.MaybeStat → Bool
-body_fits core g unit.no_stat = has_none g.parameters
-body_fits core g (unit.a_stat body) =
-    is_typed_stat body && takes_parameters core (form_of_type g.type) g.parameters && stands (record {
+abbrev pub body_stands : unit.Core → unit.Function → unit.MaybeStat → Bool
+body_stands core g unit.no_stat = true
+body_stands core g (unit.a_stat body) =
+    parameters_stand core (form_of_type g.type) g.parameters && stands (record {
       scope = with_ids g.parameters (record { core = core; ids = [] });
       result = result_of_form (form_of_type g.type);
       can_return = true;
@@ -120,40 +107,18 @@ body_fits core g (unit.a_stat body) =
       can_continue = false;
     }) body
 
--- a function literal is internal and has its body
-abbrev pub literal_fits : unit.Function → unit.FunctionName → Bool
-literal_fits g (unit.Named name) = true
-literal_fits g (unit.Lambda place) = not g.is_external && not (is_undefined g.body)
-
 abbrev pub function_fits : unit.Core → unit.Function → Bool
-function_fits core g =
-    is_function (form_of_type g.type) && is_possible core.structs g.type
-    && literal_fits g g.name && function_spares_builtins g g.name && body_fits core g g.body
+function_fits core g = is_typed_function g && is_possible core.structs g.type && body_stands core g g.body
 
--- an array of char with these bytes and a zero behind them (6.4.5)
-abbrev pub is_text_type : Form → List ℕ → Bool
-is_text_type (Array (typed (Integer Char) quals) (Some count)) bytes = nat_eq count (suc (length bytes)) && list_all (λ byte. nat_lt byte 256) bytes
-is_text_type form bytes = false
-
--- static objects have constant values for their parts, and what is defined is complete and not too large
-abbrev pub storage_fits : unit.Core → CType → unit.Storage → Bool
-storage_fits core type (unit.Static values) =
-    is_sized core.structs type && are_typed_values values && values_stand (record { core = core; ids = [] }) values
-    && are_constant values && parts_fit core.structs type values
-storage_fits core type (unit.Text bytes) = is_sized core.structs type && is_text_type (form_of_type type) bytes
-storage_fits core type unit.Declared = true
-storage_fits core type _ = is_sized core.structs type
-
--- external objects have a name, and are of static storage or nowhere defined, which no other object is
-abbrev pub linkage_fits : unit.DeclaredObject → unit.Storage → Bool
-linkage_fits o (unit.Static values) = if o.is_external then is_some o.name else true
-linkage_fits o unit.Declared = o.is_external && is_some o.name
-linkage_fits o _ = not o.is_external
+-- what is defined is complete and not too large, and the values of static objects are for their parts
+abbrev pub storage_stands : unit.Core → CType → unit.Storage → Bool
+storage_stands core type (unit.Static values) =
+    is_sized core.structs type && values_stand (record { core = core; ids = [] }) values && parts_fit core.structs type values
+storage_stands core type unit.Declared = true
+storage_stands core type _ = is_sized core.structs type
 
 abbrev pub object_fits : unit.Core → unit.DeclaredObject → Bool
-object_fits core o =
-    not (is_function (form_of_type o.type)) && is_possible core.structs o.type
-    && linkage_fits o o.storage && object_spares_builtins o.is_external o.name && storage_fits core o.type o.storage
+object_fits core o = is_typed_object o && is_possible core.structs o.type && storage_stands core o.type o.storage
 
 abbrev pub object_ids : List unit.DeclaredObject → List ℕ
 object_ids [] = []
@@ -162,15 +127,6 @@ object_ids (o ∷ os) = o.id ∷ object_ids os
 abbrev pub function_ids : List unit.Function → List ℕ
 function_ids [] = []
 function_ids (g ∷ gs) = g.id ∷ function_ids gs
-
--- no two are the same
-abbrev pub are_distinct : List ℕ → Bool
-are_distinct [] = true
-are_distinct (id ∷ ids) = not (is_among ids id) && are_distinct ids
-
-abbrev pub name_of : unit.FunctionName → Option (List ℕ)
-name_of (unit.Named name) = Some name
-name_of (unit.Lambda place) = None
 
 abbrev pub named_if : Bool → Option (List ℕ) → List (List ℕ)
 named_if true (Some name) = name ∷ []
@@ -185,11 +141,10 @@ abbrev pub external_objects : List unit.DeclaredObject → List (List ℕ)
 external_objects [] = []
 external_objects (o ∷ os) = named_if o.is_external o.name ++ external_objects os
 
--- no two are the same, and each is a name that isn't kept for made ones
-abbrev pub are_names : List (List ℕ) → Bool
-are_names [] = true
-are_names (name ∷ names) =
-    is_name name && not (bytes_eq (take 5 name) (codes "cake_")) && not (list_any (λ other. bytes_eq other name) names) && are_names names
+-- no two are the same
+abbrev pub are_distinct_names : List (List ℕ) → Bool
+are_distinct_names [] = true
+are_distinct_names (name ∷ names) = not (list_any (λ other. bytes_eq other name) names) && are_distinct_names names
 
 abbrev pub is_typed_core : unit.Core → Bool
 is_typed_core core =
@@ -198,7 +153,7 @@ is_typed_core core =
     && list_all (function_fits core) core.functions
     && list_all (object_fits core) core.objects
     && are_distinct (object_ids core.objects ++ function_ids core.functions)
-    && are_names (external_functions core.functions ++ external_objects core.objects)
+    && are_distinct_names (external_functions core.functions ++ external_objects core.objects)
 
 -- a core is typed where its parts are, and its places tell apart what a run can fail at
 pub record TypedCore (core : unit.Core) : Type 0 where

@@ -64,8 +64,8 @@ character_value (b ∷ text) = if b == 92 then escape_value text else Some b
 
 -- the values of the characters, none for a bad escape; the number counts the bytes that are left of the character before
 abbrev pub characters_from : ℕ → List ℕ → List (Option ℕ)
-characters_from left [] = []
-characters_from (suc left) (b ∷ text) = characters_from left text
+characters_from skip [] = []
+characters_from (suc skip) (b ∷ text) = characters_from skip text
 characters_from zero (b ∷ text) = character_value (b ∷ text) ∷ characters_from (character_length (b ∷ text) - 1) text
 
 abbrev pub characters : List ℕ → List (Option ℕ)

@@ -50,8 +50,8 @@ before_rest front (Err fault) = Err fault
 -- The tokens of the cells that are left. The first number counts the cells of the token, the blanks or the comment before,
 -- which are passed over; `space` says that something but a token stands directly before; `order` counts the tokens before.
 abbrev pub tokens_from : ℕ → ℕ → LinePart → Bool → ℕ → List Cell → Result (List PpToken) Fault
-tokens_from file left line space order [] = Ok []
-tokens_from file (suc left) line space order (c ∷ cells) = tokens_from file left line space order cells
+tokens_from file skip line space order [] = Ok []
+tokens_from file (suc skip) line space order (c ∷ cells) = tokens_from file skip line space order cells
 tokens_from file zero line space order (c ∷ cells) =
     elim (step_at line (bytes (c ∷ cells))) [
       | LineEnd ↦ tokens_from file 0 Start true order cells

@@ -64,17 +64,17 @@ padded l = record { size = next_multiple_of l.size l.align; align = l.align }
 -- a type, where the layout of each complete structure is given; none where it is incomplete
 abbrev mutual
   pub type_layout : (StructId → Option Layout) → CType → Option Layout
-  type_layout given (typed f q) = form_layout given f
+  type_layout layouts (typed f q) = form_layout layouts f
 
   pub form_layout : (StructId → Option Layout) → Form → Option Layout
-  form_layout given Void = None
-  form_layout given (Integer b) = Some (scalar (basic_size b))
-  form_layout given (Enum b e) = Some (scalar (basic_size b))
-  form_layout given (Pointer t) = Some (scalar 8)
-  form_layout given (Array t None) = None
-  form_layout given (Array t (Some n)) = option_map (repeated n) (type_layout given t)
-  form_layout given (Struct s) = given s
-  form_layout given (Function r ps v) = None
+  form_layout layouts Void = None
+  form_layout layouts (Integer b) = Some (scalar (basic_size b))
+  form_layout layouts (Enum b e) = Some (scalar (basic_size b))
+  form_layout layouts (Pointer t) = Some (scalar 8)
+  form_layout layouts (Array t None) = None
+  form_layout layouts (Array t (Some n)) = option_map (repeated n) (type_layout layouts t)
+  form_layout layouts (Struct s) = layouts s
+  form_layout layouts (Function r ps v) = None
 
 -- an item before others, where there are both
 abbrev pub before_others : Option Layout → Option (List Layout) → Option (List Layout)

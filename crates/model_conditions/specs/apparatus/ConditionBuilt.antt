@@ -9,7 +9,7 @@ use Rattle.model_conditions.specs.declared.conditions.Prefix.{Prefix}
 use Rattle.model_conditions.specs.declared.conditions.Prefix.TheVariants.{Plus, Minus, Complement, Not}
 use Rattle.model_types.specs.declared.numbers.BinOp.TheVariants.{Add, Sub}
 use Rattle.model_conditions.specs.ConditionGrammar.{Condition, constant, unary, binary, choice, kind_of, sign_of, Derives, constants, parentheses, tighter, signed, operation, chosen}
-use Rattle.model_conditions.specs.apparatus.ConditionReader.{Algebra, given, Frame, parenthesis, prefix, left, question, colon, Reading, filled, begun, continued, closed, parted, alone, next, ended, read_from}
+use Rattle.model_conditions.specs.apparatus.ConditionReader.{Algebra, folded, Frame, parenthesis, prefix, left, question, colon, Reading, filled, begun, continued, closed, parted, alone, next, ended, read_from}
 use Rattle.model_conditions.specs.apparatus.ConditionReader as reader
 use Rattle.model_conditions.specs.apparatus.ConditionFrames.{Admits, Admits-tighter, kind_of-bounds}
 
@@ -47,13 +47,13 @@ module _ {A : Type 0} (alg : Algebra A) where
     at_prefix : {op : Prefix} {fs : List (Frame A)} {ts : List ConditionToken} → (front : List ConditionToken) → Built fs front →
         ts ≡ front ++ sign_of op ∷ [] → Built (prefix op ∷ fs) ts
     at_left : {op : Infix} {v : A} {fs : List (Frame A)} {ts : List ConditionToken} → (front ls : List ConditionToken) (l : Condition) → Built fs front →
-        Admits (kind_of op) fs → Derives (kind_of op) ls l → v ≡ given alg l →
+        Admits (kind_of op) fs → Derives (kind_of op) ls l → v ≡ folded alg l →
         ts ≡ front ++ (ls ++ token.Operator op ∷ []) → Built (left op v ∷ fs) ts
     at_question : {v : A} {fs : List (Frame A)} {ts : List ConditionToken} → (front cs : List ConditionToken) (c : Condition) → Built fs front →
-        Admits 1 fs → Derives 1 cs c → v ≡ given alg c →
+        Admits 1 fs → Derives 1 cs c → v ≡ folded alg c →
         ts ≡ front ++ (cs ++ token.Question ∷ []) → Built (question v ∷ fs) ts
     at_colon : {v w : A} {fs : List (Frame A)} {ts : List ConditionToken} → (front cs ls : List ConditionToken) (c l : Condition) → Built fs front →
-        Admits 1 fs → Derives 1 cs c → Derives 0 ls l → v ≡ given alg c → w ≡ given alg l →
+        Admits 1 fs → Derives 1 cs c → Derives 0 ls l → v ≡ folded alg c → w ≡ folded alg l →
         ts ≡ front ++ (cs ++ token.Question ∷ (ls ++ token.Colon ∷ [])) → Built (colon v w ∷ fs) ts
 
   -- an operand of this kind stands behind the frames, and ends the tokens
@@ -64,12 +64,12 @@ module _ {A : Type 0} (alg : Algebra A) where
     pub built : Built fs front
     pub derives : Derives kind last e
     pub admits : Admits kind fs
-    pub value : a ≡ given alg e
+    pub value : a ≡ folded alg e
     pub parts : ts ≡ front ++ last
 
   -- an operand as tight as k, put into the frames that are as tight as the kind
   fills : (kind : ℕ) → kind ≤ 11 → (fs : List (Frame A)) (front : List ConditionToken) → Built fs front → (k : ℕ) → kind ≤ k → Admits k fs →
-      (last : List ConditionToken) (e : Condition) → Derives k last e → (a : A) → a ≡ given alg e → (ts : List ConditionToken) → ts ≡ front ++ last →
+      (last : List ConditionToken) (e : Condition) → Derives k last e → (a : A) → a ≡ folded alg e → (ts : List ConditionToken) → ts ≡ front ++ last →
       Ends kind (filled alg kind fs a).frames (filled alg kind fs a).operand ts
   fills kind g [] front b k h m last e d a v ts p =
       record { front = front; last = last; e = e; built = b; derives = loosen kind k h d; admits = tt; value = v; parts = p }
@@ -87,7 +87,7 @@ module _ {A : Type 0} (alg : Algebra A) where
       (cond t (filled alg kind fs (alg.of_binary op w a)) (record { frames = left op w ∷ fs; operand = a })).operand ts) [
         | true ↦ λ c. fills kind g fs before b (kind_of op) (grind (arith, nat_tests)) n (ls ++ token.Operator op ∷ last) (binary op l e)
             (operation op ls last refl dl (loosen (suc (kind_of op)) k m d) refl)
-            (alg.of_binary op w a) (ap (λ (z : A). alg.of_binary op z a) vl ∙ ap (alg.of_binary op (given alg l)) v) ts
+            (alg.of_binary op w a) (ap (λ (z : A). alg.of_binary op z a) vl ∙ ap (alg.of_binary op (folded alg l)) v) ts
             (p ∙ ap (λ (z : List ConditionToken). z ++ last) q ∙ simp append_assoc)
         | false ↦ λ c. record {
           front = front;
@@ -108,7 +108,7 @@ module _ {A : Type 0} (alg : Algebra A) where
             (cs ++ token.Question ∷ (ls ++ token.Colon ∷ last)) (choice c l e)
             (chosen cs ls last dc dl (loosen 0 k (omega arith) d) refl)
             (alg.of_choice w x a)
-            (ap (λ (z : A). alg.of_choice z x a) vc ∙ ap (λ (z : A). alg.of_choice (given alg c) z a) vl ∙ ap (alg.of_choice (given alg c) (given alg l)) v) ts
+            (ap (λ (z : A). alg.of_choice z x a) vc ∙ ap (λ (z : A). alg.of_choice (folded alg c) z a) vl ∙ ap (alg.of_choice (folded alg c) (folded alg l)) v) ts
             (p ∙ ap (λ (z : List ConditionToken). z ++ last) q ∙ simp append_assoc)
         | false ↦ λ i. record {
           front = front;
@@ -161,14 +161,14 @@ module _ {A : Type 0} (alg : Algebra A) where
   -- ---- behind an operand
 
   parts : (fs : List (Frame A)) (front : List ConditionToken) → Built fs front → (last : List ConditionToken) (e : Condition) → Derives 0 last e →
-      (a : A) → a ≡ given alg e → (ts : List ConditionToken) → ts ≡ front ++ last → (s : Reading A) → parted fs a ≡ Some s →
+      (a : A) → a ≡ folded alg e → (ts : List ConditionToken) → ts ≡ front ++ last → (s : Reading A) → parted fs a ≡ Some s →
       Sound s.frames s.operand (ts ++ token.Colon ∷ [])
   parts (question w ∷ fs) front (at_question before cs c b n dc vc q) last e d a v ts p s = λ r. same _ s r _
       (at_colon before cs last c e b n dc d vc v (ap (λ (z : List ConditionToken). z ++ token.Colon ∷ []) (p ∙ ap (λ (z : List ConditionToken). z ++ last) q) ∙ simp append_assoc))
   parts fs front b last e d a v ts p s = λ r. cc
 
   closes : (fs : List (Frame A)) (front : List ConditionToken) → Built fs front → (last : List ConditionToken) (e : Condition) → Derives 0 last e →
-      (a : A) → a ≡ given alg e → (ts : List ConditionToken) → ts ≡ front ++ last → (s : Reading A) → closed fs a ≡ Some s →
+      (a : A) → a ≡ folded alg e → (ts : List ConditionToken) → ts ≡ front ++ last → (s : Reading A) → closed fs a ≡ Some s →
       Sound s.frames s.operand (ts ++ token.Close ∷ [])
   closes (parenthesis ∷ fs) front (at_parenthesis before b q) last e d a v ts p s = λ r. same _ s r _ (record {
     front = before;
@@ -213,10 +213,10 @@ module _ {A : Type 0} (alg : Algebra A) where
   pub record Found (v : A) (ts : List ConditionToken) : Type 0 where
     pub e : Condition
     pub derives : Derives 0 ts e
-    pub value : v ≡ given alg e
+    pub value : v ≡ folded alg e
 
   ends : (fs : List (Frame A)) (front : List ConditionToken) → Built fs front → (last : List ConditionToken) (e : Condition) → Derives 0 last e →
-      (a : A) → a ≡ given alg e → (ts : List ConditionToken) → ts ≡ front ++ last → (v : A) → alone fs a ≡ Some v → Found v ts
+      (a : A) → a ≡ folded alg e → (ts : List ConditionToken) → ts ≡ front ++ last → (v : A) → alone fs a ≡ Some v → Found v ts
   ends [] front (bare q) last e d a w ts p v = λ r.
       let t : ts ≡ last = p ∙ ap (λ (z : List ConditionToken). z ++ last) q in
       let u : v ≡ a = cc in

@@ -10,7 +10,7 @@ use Rattle.model_types.specs.declared.operators.LogicOp.TheVariants.{And, Or}
 use Rattle.model_conditions.specs.declared.conditions.Prefix.{Prefix}
 use Rattle.model_conditions.specs.declared.conditions.Prefix.TheVariants.{Plus, Minus, Complement, Not}
 use Rattle.model_conditions.specs.ConditionGrammar.{Condition, kind_of, sign_of, Derives, constants, parentheses, tighter, signed, operation, chosen}
-use Rattle.model_conditions.specs.apparatus.ConditionReader.{Algebra, given, Frame, parenthesis, prefix, left, question, colon, Reading, Filled, filled, waiting, begun, closed, parted, read_from}
+use Rattle.model_conditions.specs.apparatus.ConditionReader.{Algebra, folded, Frame, parenthesis, prefix, left, question, colon, Reading, Filled, filled, waiting, begun, closed, parted, read_from}
 
 -- an expression of this kind can begin behind these frames
 abbrev pub Admits : {A : Type 0} → ℕ → List (Frame A) → Type 0
@@ -98,7 +98,7 @@ module _ {A : Type 0} (alg : Algebra A) where
     pub fills : (k : ℕ) → k ≤ kind → filled alg k frames operand ≡ filled alg k fs a
 
   pub stands : {kind : ℕ} {ts : List ConditionToken} {e : Condition} → Derives kind ts e →
-      (fs : List (Frame A)) → Admits kind fs → (rest : List ConditionToken) → Stands kind fs (given alg e) ts rest
+      (fs : List (Frame A)) → Admits kind fs → (rest : List ConditionToken) → Stands kind fs (folded alg e) ts rest
   stands (constants n q) fs m rest = record {
     frames = fs;
     operand = alg.of_constant n;
@@ -109,7 +109,7 @@ module _ {A : Type 0} (alg : Algebra A) where
       let s = stands d (parenthesis ∷ fs) tt (token.Close ∷ rest) in
       record {
         frames = fs;
-        operand = given alg e;
+        operand = folded alg e;
         reads = ap (λ (z : List ConditionToken). from fs (z ++ rest)) q
             ∙ ap (λ (z : List ConditionToken). from (parenthesis ∷ fs) z) (append_assoc inner (token.Close ∷ []) rest)
             ∙ s.reads
@@ -131,7 +131,7 @@ module _ {A : Type 0} (alg : Algebra A) where
       }
   stands (operation {l = l} {r = r} op ls rs qk dl dr q) fs m rest =
       let s = stands dl fs m (token.Operator op ∷ (rs ++ rest)) in
-      let u = stands dr (left op (given alg l) ∷ fs) (omega (arith, qk)) rest in
+      let u = stands dr (left op (folded alg l) ∷ fs) (omega (arith, qk)) rest in
       let b = kind_of-bounds op in
       record {
         frames = u.frames;
@@ -140,14 +140,14 @@ module _ {A : Type 0} (alg : Algebra A) where
             ∙ ap (λ (z : List ConditionToken). from fs z) (append_assoc ls (token.Operator op ∷ rs) rest)
             ∙ s.reads
             ∙ ap (λ (f : Filled A). read_from alg (waiting (left op f.operand) f.frames) (rs ++ rest))
-            (s.fills (kind_of op) (omega (arith, qk)) ∙ filled-none fs (given alg l) b.0 b.1 (subst (λ (k : ℕ). Admits k fs) qk m))
+            (s.fills (kind_of op) (omega (arith, qk)) ∙ filled-none fs (folded alg l) b.0 b.1 (subst (λ (k : ℕ). Admits k fs) qk m))
             ∙ u.reads;
-        fills = λ k h. u.fills k (omega arith) ∙ filled-left op (given alg l) fs (given alg r) (omega (arith, qk));
+        fills = λ k h. u.fills k (omega arith) ∙ filled-left op (folded alg l) fs (folded alg r) (omega (arith, qk));
       }
   stands (chosen {c = c} {l = l} {r = r} cs ls rs dc dl dr q) fs m rest =
       let s = stands dc fs (Admits-tighter _ fs m) (token.Question ∷ ((ls ++ token.Colon ∷ rs) ++ rest)) in
-      let u = stands dl (question (given alg c) ∷ fs) tt (token.Colon ∷ (rs ++ rest)) in
-      let v = stands dr (colon (given alg c) (given alg l) ∷ fs) tt rest in
+      let u = stands dl (question (folded alg c) ∷ fs) tt (token.Colon ∷ (rs ++ rest)) in
+      let v = stands dr (colon (folded alg c) (folded alg l) ∷ fs) tt rest in
       record {
         frames = v.frames;
         operand = v.operand;
@@ -155,10 +155,10 @@ module _ {A : Type 0} (alg : Algebra A) where
             ∙ ap (λ (z : List ConditionToken). from fs z) (append_assoc cs (token.Question ∷ (ls ++ token.Colon ∷ rs)) rest)
             ∙ s.reads
             ∙ ap (λ (f : Filled A). read_from alg (waiting (question f.operand) f.frames) ((ls ++ token.Colon ∷ rs) ++ rest))
-            (s.fills 1 (omega arith) ∙ filled-none fs (given alg c) (omega arith) (omega arith) (Admits-tighter _ fs m))
-            ∙ ap (λ (z : List ConditionToken). from (question (given alg c) ∷ fs) z) (append_assoc ls (token.Colon ∷ rs) rest)
+            (s.fills 1 (omega arith) ∙ filled-none fs (folded alg c) (omega arith) (omega arith) (Admits-tighter _ fs m))
+            ∙ ap (λ (z : List ConditionToken). from (question (folded alg c) ∷ fs) z) (append_assoc ls (token.Colon ∷ rs) rest)
             ∙ u.reads
             ∙ ap (λ (f : Filled A). read_from alg (parted f.frames f.operand) (rs ++ rest)) (u.fills 0 (omega arith))
             ∙ v.reads;
-        fills = λ k h. v.fills k h ∙ filled-colon (given alg c) (given alg l) fs (given alg r) h;
+        fills = λ k h. v.fills k h ∙ filled-colon (folded alg c) (folded alg l) fs (folded alg r) h;
       }

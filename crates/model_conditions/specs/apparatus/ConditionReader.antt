@@ -20,11 +20,11 @@ pub record Algebra (A : Type 0) : Type 0 where
   pub of_choice : A → A → A → A
 
 -- what a whole condition gives
-abbrev pub given : {A : Type 0} → Algebra A → Condition → A
-given alg (constant n) = alg.of_constant n
-given alg (unary op e) = alg.of_unary op (given alg e)
-given alg (binary op l r) = alg.of_binary op (given alg l) (given alg r)
-given alg (choice c l r) = alg.of_choice (given alg c) (given alg l) (given alg r)
+abbrev pub folded : {A : Type 0} → Algebra A → Condition → A
+folded alg (constant n) = alg.of_constant n
+folded alg (unary op e) = alg.of_unary op (folded alg e)
+folded alg (binary op l r) = alg.of_binary op (folded alg l) (folded alg r)
+folded alg (choice c l r) = alg.of_choice (folded alg c) (folded alg l) (folded alg r)
 
 -- a part that waits for the operand that is read now
 pub data Frame (A : Type 0) : Type 0 where

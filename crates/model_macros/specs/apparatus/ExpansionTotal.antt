@@ -151,8 +151,8 @@ written-with_replaced args k j v = set_written args k j (with_run v (slice_get a
 -- ---- each run has an answer
 
 -- what is left of the work
-abbrev pub left : ℕ → ℕ → ℕ
-left made len = 2 * (MADE - made) + len
+abbrev pub remaining : ℕ → ℕ → ℕ
+remaining made len = 2 * (MADE - made) + len
 
 at_most : (made c : ℕ) → (MADE < made + c) ⊎ (made + c ≤ MADE)
 at_most made c = elim (nat_lt MADE (made + c)) as (λ b. nat_lt MADE (made + c) ≡ b → (MADE < made + c) ⊎ (made + c ≤ MADE)) [
@@ -161,9 +161,9 @@ at_most made c = elim (nat_lt MADE (made + c)) as (λ b. nat_lt MADE (made + c) 
 ] refl
 
 record Shorter (table : Macros) (n : ℕ) : Type 0 where
-  gives : (run : Run) (made : ℕ) → left made (length run) < n → Gives table run made
+  gives : (run : Run) (made : ℕ) → remaining made (length run) < n → Gives table run made
 
-body_total : (table : Macros) (n : ℕ) → Shorter table n → (c : Call) (args : List Argument) (made : ℕ) → left made (length c.rest) < n → FillGives table c [] args made
+body_total : (table : Macros) (n : ℕ) → Shorter table n → (c : Call) (args : List Argument) (made : ℕ) → remaining made (length c.rest) < n → FillGives table c [] args made
 unfolding count
 body_total table n ih c args made small =
     elim (substituted table.files c.name c.hides c.def args) as (λ o. substituted table.files c.name c.hides c.def args ≡ o → FillGives table c [] args made) [
@@ -175,7 +175,7 @@ body_total table n ih c args made small =
       ]
     ] refl
 
-fill_total : (table : Macros) (n : ℕ) → Shorter table n → (c : Call) (us : List Use) (args : List Argument) (made : ℕ) → left made (length c.rest) < n → ((k : ℕ) → left made (length (written args k)) < n) →
+fill_total : (table : Macros) (n : ℕ) → Shorter table n → (c : Call) (us : List Use) (args : List Argument) (made : ℕ) → remaining made (length c.rest) < n → ((k : ℕ) → remaining made (length (written args k)) < n) →
     FillGives table c us args made
 unfolding count
 fill_total table n ih c [] args made small each = body_total table n ih c args made small
@@ -201,7 +201,7 @@ count-front xs (Err e) = refl
 kept : (table : Macros) (p : Painted) (ps : Run) (made : ℕ) → Gives table ps made → Stays table p ps → Gives table (p ∷ ps) made
 kept table p ps made g f = record { answer = with_front (p ∷ []) g.answer; expands = f.stays made g.answer g.expands; grows = rw (count-front (p ∷ []) g.answer) g.grows }
 
-call_total : (table : Macros) (n : ℕ) → Shorter table n → (p : Painted) (ps : Run) (made r : ℕ) (m : Macro) (names : List (List ℕ)) → left made (length (p ∷ ps)) < suc n →
+call_total : (table : Macros) (n : ℕ) → Shorter table n → (p : Painted) (ps : Run) (made r : ℕ) (m : Macro) (names : List (List ℕ)) → remaining made (length (p ∷ ps)) < suc n →
     ranked p.tok.spelling table.entries ≡ Some (r, m) → holds r p.hides ≡ false → m.params ≡ Some names → opens ps ≡ true → Gives table (p ∷ ps) made
 unfolding count
 call_total table n ih p ps made r m names small known shown kind opened =
@@ -219,7 +219,7 @@ call_total table n ih p ps made r m names small known shown kind opened =
           ] refl
     ] refl
 
-front : (table : Macros) (n : ℕ) → Shorter table n → (p : Painted) (ps : Run) (made : ℕ) → left made (length (p ∷ ps)) < suc n → Gives table (p ∷ ps) made
+front : (table : Macros) (n : ℕ) → Shorter table n → (p : Painted) (ps : Run) (made : ℕ) → remaining made (length (p ∷ ps)) < suc n → Gives table (p ∷ ps) made
 unfolding count
 front table n ih p ps made small =
     let stay : Gives table ps made = ih.gives ps made (omega (arith, small)) in
@@ -243,7 +243,7 @@ all_shorter : (table : Macros) (n : ℕ) → Shorter table n
 unfolding count
 all_shorter table zero = record { gives = λ run made h. absurd (omega (arith, h)) }
 all_shorter table (suc n) = record {
-  gives = λ run. elim run as (λ r. (made : ℕ) → left made (length r) < suc n → Gives table r made) [
+  gives = λ run. elim run as (λ r. (made : ℕ) → remaining made (length r) < suc n → Gives table r made) [
     | [] ↦ λ made h. record { answer = Ok ([], made); expands = Expands-nil table made; grows = omega arith }
     | p ∷ ps ↦ λ made h. front table n (all_shorter table n) p ps made h
   ];
@@ -251,4 +251,4 @@ all_shorter table (suc n) = record {
 
 -- each run has an answer, with a count that has not fallen
 pub Expands-total : (table : Macros) (run : Run) (made : ℕ) → Gives table run made
-Expands-total table run made = (all_shorter table (suc (left made (length run)))).gives run made (omega arith)
+Expands-total table run made = (all_shorter table (suc (remaining made (length run)))).gives run made (omega arith)

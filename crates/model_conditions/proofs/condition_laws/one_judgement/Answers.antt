@@ -3,4 +3,4 @@ use Rattle.model_conditions.specs.Conditions.{judged-is, judged-only}
 use Rattle.model_conditions.proofs.condition_laws.one_judgement.Goals as goal
 
 pub returns : goal.returns
-returns c = record { given = judged-is; only = judged-only }
+returns c = record { judges = judged-is; only = judged-only }

@@ -1,0 +1,3 @@
+pub mod TypedMeanings
+pub mod TypedArguments
+pub mod StandingMeanings
