@@ -128,6 +128,15 @@ def judged_by_gcc(condition, answer):
     return compared(gcc.condition(condition), answer) if gcc.is_there() else SKIPPED
 
 
+def text_is_c89(path):
+    """A C89 compiler reads a text that the writer writes."""
+    if not gcc.is_there():
+        return SKIPPED
+    words = ["-std=c89", "-pedantic-errors", "-Wall", "-Wno-overlength-strings", "-fsyntax-only", "-xc", path]
+    code, _, err = gcc.gcc(words)
+    return None if code == 0 else err
+
+
 def place_of(answer):
     found = re.fullmatch(r"S01 (\d+):(\d+)", answer)
     return tuple(map(int, found.groups())) if found else None
@@ -418,6 +427,10 @@ def operation_cases():
     return [(operations_agree,)]
 
 
+def text_cases():
+    return [(text_is_c89, os.path.join(TOP, "crates", "writer_table", "stdout"))]
+
+
 SUBJECTS = {
     "words": words_cases,
     "command": command_cases,
@@ -433,6 +446,7 @@ SUBJECTS = {
     "rules": rule_cases,
     "expressions": expression_cases,
     "operations": operation_cases,
+    "texts": text_cases,
 }
 
 
