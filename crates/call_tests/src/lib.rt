@@ -7,3 +7,5 @@ mod drawn;
 mod flow;
 #[cfg(test)]
 mod memory;
+#[cfg(test)]
+mod tokens;

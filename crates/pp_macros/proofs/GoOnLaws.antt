@@ -13,7 +13,7 @@ use Rattle.model_macros.specs.apparatus.ExpansionRules.{object_call, Expands-obj
 use Rattle.model_macros.specs.apparatus.ExpansionTotal.{call-length, arguments-weight}
 use Rattle.pp_definitions.specs.declared.errors.MacroError.{MacroError}
 use Rattle.pp_definitions.specs.declared.errors.MacroError.TheVariants as macro_error
-use Rattle.pp_macros.specs.Machine.{Waiting, Called, CallParts, Shown, Refused, Begins, Expanded, from_wanted, Gives, GoesOn, Finishes, Stops, waiting_weight, all_weight, left}
+use Rattle.pp_macros.specs.Machine.{Waiting, Called, CallParts, Shown, Refused, Begins, Expanded, from_wanted, Gives, GoesOn, Finishes, Stops, waiting_weight, all_weight, remaining}
 use Rattle.model_macros.specs.Pasting.{fresh}
 use Rattle.model_macros.specs.ExpansionFunction.{expand-only}
 use Rattle.pp_definitions.proofs.HeadingLaws.{drop-get}
@@ -42,7 +42,7 @@ Asked-gives table f fs calls pending out made x a g =
     let three = subst (λ (z : Run). Gives table (asking f x.asked x.rest ∷ fs) (written f.args x.asked.rank) z made a) x.empty two in
     asks table f fs x.asked x.rest made a x.next three
 
-pub Asked-shrinks : (f : Waiting) (fs calls : List Waiting) (pending out : Run) (made : ℕ) → Asked f fs calls pending out → left made (length pending + all_weight calls) < left made (waiting_weight f + all_weight fs)
+pub Asked-shrinks : (f : Waiting) (fs calls : List Waiting) (pending out : Run) (made : ℕ) → Asked f fs calls pending out → remaining made (length pending + all_weight calls) < remaining made (waiting_weight f + all_weight fs)
 Asked-shrinks f fs calls pending out made x =
     let l = asking-lighter f fs x.asked x.rest x.next in
     let p : length pending ≡ length (written f.args x.asked.rank) = ap length x.argument in
@@ -88,7 +88,7 @@ Done-gives table f fs made more pending out x a g =
     let two = subst (λ (z : Run). Gives table fs (x.body ++ f.call.rest) z more a) x.before one in
     goes_body table f fs made x.body more a x.none x.text x.count x.fits two
 
-pub Done-shrinks : (table : Macros) (f : Waiting) (fs : List Waiting) (made more : ℕ) (pending out : Run) → Done table f made more pending out → left more (length pending + all_weight fs) < left made (waiting_weight f + all_weight fs)
+pub Done-shrinks : (table : Macros) (f : Waiting) (fs : List Waiting) (made more : ℕ) (pending out : Run) → Done table f made more pending out → remaining more (length pending + all_weight fs) < remaining made (waiting_weight f + all_weight fs)
 Done-shrinks table f fs made more pending out x =
     let p : length pending ≡ length (x.body ++ f.call.rest) = ap length x.put in
     let c = x.count in
@@ -224,7 +224,7 @@ step-gives table calls fs f w pending out made a p q is g =
     subst (λ (z : List Waiting). Gives table z pending out made a) (sym q) (subst (λ (z : Run). Gives table (f ∷ fs) z out made a) (sym p) two)
 
 pub step-shrinks : (calls fs : List Waiting) (f w : Waiting) (pending out : Run) (made more n : ℕ) → pending ≡ [] → calls ≡ f ∷ fs → w ≡ record f { args = with_replaced f.args f.rank out } →
-    left more n < left made (waiting_weight w + all_weight fs) → left more n < left made (length pending + all_weight calls)
+    remaining more n < remaining made (waiting_weight w + all_weight fs) → remaining more n < remaining made (length pending + all_weight calls)
 step-shrinks calls fs f w pending out made more n p q is h =
     let l = lighter f.args f.rank out in
     let e = ap waiting_weight is in

@@ -62,8 +62,8 @@ abbrev pub all_weight : List Waiting → ℕ
 all_weight [] = 0
 all_weight (f ∷ fs) = waiting_weight f + all_weight fs
 
-abbrev pub left : ℕ → ℕ → ℕ
-left made weight = 2 * (MADE - made) + weight
+abbrev pub remaining : ℕ → ℕ → ℕ
+remaining made weight = 2 * (MADE - made) + weight
 
 -- ---- what the functions answer
 

@@ -72,16 +72,16 @@ fn parts_at(p: &Painted, depth: usize, commas: usize) -> bool
 fn parts(alloc: Global, commas: usize, row: Row<Painted>) -> Result<Row<Row<Painted>>, NoMemory>
     ensures { IfOk result (λ r. r ≡ spec.parts commas 0 row) }
 {
-    let mut left = commas;
+    let mut remaining = commas;
     let mut rest = Stack::new(row);
     let mut done = Row::new(alloc);
     let mut part = Row::new(alloc);
     let mut depth: usize = 0;
     while let Some(p) = rest.pop() {
-        if parts_at(&p, depth, left) {
+        if parts_at(&p, depth, remaining) {
             done.push(part)?;
             part = Row::new(alloc);
-            left -= 1;
+            remaining -= 1;
             continue;
         }
         let _ = part.len();

@@ -8,7 +8,7 @@ ghost use Rattle.model_macros.specs.Pasting as pasting;
 ghost use Rattle.model_macros.specs.Substitution as substitution;
 ghost use Rattle.model_macros.specs.MacroDefinitions as definitions;
 ghost use Rattle.pp_macros.specs.Machine as machine;
-ghost use Rattle.pp_macros.specs.Machine.{Charges, Finishes, Stops, Gives, GoesOn, Expanded, Shown, Called, CallParts, Refused, Begins, Answers, from_wanted, waiting_weight, all_weight, left};
+ghost use Rattle.pp_macros.specs.Machine.{Charges, Finishes, Stops, Gives, GoesOn, Expanded, Shown, Called, CallParts, Refused, Begins, Answers, from_wanted, waiting_weight, all_weight, remaining};
 ghost use Rattle.pp_macros.specs.Progress.{Progresses, From};
 ghost use Rattle.model_macros.specs.apparatus.ExpansionRules.{Stays};
 ghost use Rattle.model_macros.specs.apparatus.ExpansionRules as rules;
@@ -117,7 +117,7 @@ fn go_on<'a>(
 ) -> Result<State<'a>, MacroError>
     ensures gives { IfOk result (λ s. (a : expansion.Answer) → Gives table.now s.calls s.pending s.out made.new a → GoesOn table.now call.entry calls.entry made.old a) }
     ensures stops { IfErr result (λ e. Stops (GoesOn table.now call.entry calls.entry made.old) e made.new) }
-    ensures shrinks { IfOk result (λ s. left made.new (length s.pending + all_weight s.calls) < left made.old (waiting_weight call.entry + all_weight calls.entry)) }
+    ensures shrinks { IfOk result (λ s. remaining made.new (length s.pending + all_weight s.calls) < remaining made.old (waiting_weight call.entry + all_weight calls.entry)) }
 {
     let Waiting {
         name,
@@ -332,7 +332,7 @@ fn next_state<'a>(
 ) -> Result<State<'a>, MacroError>
     ensures gives { IfOk result (λ s. (a : expansion.Answer) → From table.now s made.new a → Gives table.now state.entry.calls (p ∷ state.entry.pending) state.entry.out made.old a) }
     ensures stops { IfErr result (λ e. Stops (Gives table.now state.entry.calls (p ∷ state.entry.pending) state.entry.out made.old) e made.new) }
-    ensures shrinks { IfOk result (λ s. left made.new (length s.pending + all_weight s.calls) < left made.old (length state.entry.pending + 1 + all_weight state.entry.calls)) }
+    ensures shrinks { IfOk result (λ s. remaining made.new (length s.pending + all_weight s.calls) < remaining made.old (length state.entry.pending + 1 + all_weight state.entry.calls)) }
 {
     let State {
         calls,

@@ -5,7 +5,7 @@ use Rattle.pp_macros.proofs.arguments.parts.Given as goal
 
 abbrev pub invariant-loop-p : goal.invariant-loop-p
 invariant-loop-p l = record {
-  so_far : l.done ++ to_first l.part (parts l.left l.depth l.rest) ≡ parts l.initial.left 0 l.initial.rest;
+  so_far : l.done ++ to_first l.part (parts l.remaining l.depth l.rest) ≡ parts l.initial.remaining 0 l.initial.rest;
   shallow : l.depth ≤ length l.part;
 }
 
