@@ -735,6 +735,8 @@ def answer(name, due):
     """What is computed of a row, and what it is: whether the unit is accepted, the rule that it breaks, or its limit."""
     if due == "unit":
         return f"outcome rows.{name} ≡ accepted"
+    if due == "within":
+        return f"is_within_limit rows.{name} ≡ true"
     rule, place = due.split()
     column = place.split(":")[1]
     return f"limit rows.{name} ≡ Some {column}" if rule == "M07" else f"outcome rows.{name} ≡ breaks {int(rule[1:])} {column}"
@@ -742,8 +744,8 @@ def answer(name, due):
 
 def laws(module, function, title, rows):
     body = "".join(f"    ensures {name} {{ {answer(name, due)} }}\n" for name, due, _ in rows)
-    used = [word for word in ("outcome", "accepted", "breaks", "limit") if word in words_in(body)]
-    prelude = ["Some", "◌≡◌"] if "Some" in words_in(body) else ["◌≡◌"]
+    used = [word for word in ("outcome", "accepted", "breaks", "limit", "is_within_limit") if word in words_in(body)]
+    prelude = [*(word for word in ("Some", "true") if word in words_in(body)), "◌≡◌"]
     return (
         f"//! {title}: what the definition of checking answers.\n"
         f"ghost use Rattle.std.specs.Prelude.{{{', '.join(prelude)}}};\nghost use {PARTS_FILE}.{{{', '.join(used)}}};\n"

@@ -1,5 +1,6 @@
 -- What the trees of units of one line are made of, and what the definition of checking answers of such a unit.
-use Rattle.std.specs.Prelude.{ℕ, if◌then◌else◌, List, [], ◌∷◌, Option, option_map, Result, Ok, Err}
+use Rattle.std.specs.Prelude.{ℕ, Bool, ◌&&◌, is_none, if◌then◌else◌, List, [], ◌∷◌, Option, option_map, Result, Ok, Err}
+use Rattle.std.specs.Result.{is_ok}
 use Rattle.cake_base.specs.declared.places.Place.{Place}
 use Rattle.cake_base.specs.declared.rules.Fault.{Fault}
 use Rattle.model_types.specs.declared.marks.Span.{Span}
@@ -84,3 +85,7 @@ outcome externals = outcome_of (elab_unit externals)
 -- the column of the first object whose initial values are too many, where no rule is broken
 abbrev pub limit : List syntax.External → Option ℕ
 limit externals = option_map (λ hit. hit.place.column) (limit_of externals)
+
+-- no rule is broken, and no object has too many initial values: of units whose core is too large to be computed
+abbrev pub is_within_limit : List syntax.External → Bool
+is_within_limit externals = is_ok (elab_unit externals) && is_none (limit_of externals)

@@ -22,5 +22,4 @@ pub fn rows_accepted_statements_initializers_programs_4()
     ensures accepted_statements_initializers_programs_87 { outcome rows.accepted_statements_initializers_programs_87 ≡ accepted }
     ensures accepted_statements_initializers_programs_88 { outcome rows.accepted_statements_initializers_programs_88 ≡ accepted }
     ensures accepted_statements_initializers_programs_89 { outcome rows.accepted_statements_initializers_programs_89 ≡ accepted }
-    ensures accepted_statements_initializers_programs_90 { outcome rows.accepted_statements_initializers_programs_90 ≡ accepted }
 {}
