@@ -5,7 +5,9 @@ mod derivations;
 mod faults;
 mod forms;
 mod qualifiers;
+mod words;
 
 pub use derivations::{Typing, array_of, faulty_array_of, function_of, pointed};
 pub use faults::{constraint, fault_at, fault_if, first_of_faults};
 pub use qualifiers::{made_const, meeting_fault, qualified, qualifier_fault, with_all};
+pub use words::{Storage, has_type_specifier, is_type_specifier, place_of_word, storage_of};
