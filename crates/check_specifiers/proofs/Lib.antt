@@ -1,1 +1,2 @@
+mod OwnershipLaws
 mod StorageLaws

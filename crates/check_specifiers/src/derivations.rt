@@ -32,7 +32,7 @@ pub struct Typing {
 
 impl Typing {
     fn known(ty: CType) -> Typing
-        ensures { typing_of result ≡ m.typed_unless None ty }
+        ensures { typing_of result ≡ m.typing (Some ty) None }
     {
         Typing {
             ty: Some(ty),
@@ -41,7 +41,7 @@ impl Typing {
     }
 
     fn faulty(fault: Fault) -> Typing
-        ensures { (type : t.CType) → typing_of result ≡ m.typed_unless (Some fault) type }
+        ensures { typing_of result ≡ m.typing None (Some fault) }
     {
         Typing {
             ty: None,

@@ -1,5 +1,6 @@
 //! Qualifiers put on a type (ISO/IEC 9899:2024, 6.7.4.1), those of ownership among them.
-ghost use Rattle.std.specs.Prelude.{◌≡◌, IfOk};
+ghost use Rattle.std.specs.Prelude.{◌≡◌, ◌&&◌, ◌||◌, not, IfOk};
+ghost use Rattle.model_core.specs.CoreTypes.{no_quals};
 ghost use Rattle.model_checking.specs.Qualified as m;
 
 use crate::faults::fault_at;
@@ -132,7 +133,16 @@ fn wants_pointer(quals: Quals) -> bool
     quals.has_owner || quals.has_opt
 }
 
+/// Whether the qualifiers can't qualify a type that is no array and has others already.
+fn cannot_qualify(list: &[Qualifier], quals: Quals, is_pointer: bool) -> bool
+    ensures { result ≡ (m.wants_pointer (m.with_all list.now no_quals) && not is_pointer || m.do_meet (m.with_all list.now quals)) }
+{
+    let alone = with_all(list, NO_QUALS);
+    wants_pointer(alone) && !is_pointer || do_meet(with_all(list, quals))
+}
+
 /// Whether the qualifiers can't qualify the type.
+#[tactic(auto, using(crate::proofs::OwnershipLaws::no_array_misplaced))]
 fn is_misplaced(list: &[Qualifier], ty: &CType) -> bool
     ensures { result ≡ m.is_misplaced list.now ty.now }
 {
@@ -143,10 +153,11 @@ fn is_misplaced(list: &[Qualifier], ty: &CType) -> bool
         | TypeForm::Enum(..)
         | TypeForm::Pointer(_)
         | TypeForm::Struct(_)
-        | TypeForm::Function(..) => {
-            let quals = with_all(list, NO_QUALS);
-            wants_pointer(quals) && !is_object_pointer(ty) || do_meet(quals)
-        }
+        | TypeForm::Function(..) => cannot_qualify(
+            list,
+            ty.quals(),
+            is_object_pointer(ty),
+        ),
     }
 }
 

@@ -113,7 +113,6 @@ fn with_word(storage: Storage, spec: &Spec) -> Storage
 }
 
 /// The words of storage in a list.
-#[tactic(auto, using(crate::proofs::StorageLaws::storage_step))]
 pub fn storage_of(specs: &[Spec]) -> Storage
     ensures { storage_in result ≡ m.storage_of (m.words_of (specs_items specs.now)) }
 {
