@@ -1,2 +1,3 @@
-pub mod Typings
+pub mod Contexts
 pub mod Storages
+pub mod Typings

@@ -75,7 +75,12 @@ fn element_fault(structs: &Structs, first: Place, element: &CType) -> Option<Fau
 }
 
 /// Whether there may be an array of this length.
-fn length_fits(alloc: Global, structs: &Structs, element: &CType, length: Option<u64>) -> Result<bool, NoMemory>
+fn length_fits(
+    alloc: Global,
+    structs: &Structs,
+    element: &CType,
+    length: Option<u64>,
+) -> Result<bool, NoMemory>
     ensures { IfOk result (λ fits. fits ≡ p.length_fits structs.now element.now length) }
 {
     match length {
@@ -89,7 +94,13 @@ fn length_fits(alloc: Global, structs: &Structs, element: &CType, length: Option
 }
 
 /// C28, C22 and, of what may be an element, C25: an array has at least one element, and isn't too large.
-fn array_fault(alloc: Global, structs: &Structs, first: Place, element: &CType, length: Option<u64>) -> Result<Option<Fault>, NoMemory>
+fn array_fault(
+    alloc: Global,
+    structs: &Structs,
+    first: Place,
+    element: &CType,
+    length: Option<u64>,
+) -> Result<Option<Fault>, NoMemory>
     ensures { IfOk result (λ fault. fault ≡ m.array_fault structs.now first element.now length) }
 {
     match element_fault(structs, first, element) {
@@ -103,7 +114,13 @@ fn array_fault(alloc: Global, structs: &Structs, first: Place, element: &CType, 
 
 /// The array of an element, with its length where it has one. At the first token of the declarator: C28 where the element
 /// is a function, C22 where it isn't complete, and C25 where the array has no element or is too large.
-pub fn array_of(alloc: Global, structs: &Structs, first: Place, element: &CType, length: Option<u64>) -> Result<Typing, NoMemory>
+pub fn array_of(
+    alloc: Global,
+    structs: &Structs,
+    first: Place,
+    element: &CType,
+    length: Option<u64>,
+) -> Result<Typing, NoMemory>
     ensures { IfOk result (λ made. typing_of made ≡ m.step structs.now first (an_array length) element.now) }
 {
     match array_fault(alloc, structs, first, element, length)? {
@@ -117,7 +134,12 @@ pub fn array_of(alloc: Global, structs: &Structs, first: Place, element: &CType,
 
 /// The array of an element whose length is faulty: one of no elements, by which nothing is too large. C28 and C22 as of
 /// another array.
-pub fn faulty_array_of(alloc: Global, structs: &Structs, first: Place, element: &CType) -> Result<Typing, NoMemory>
+pub fn faulty_array_of(
+    alloc: Global,
+    structs: &Structs,
+    first: Place,
+    element: &CType,
+) -> Result<Typing, NoMemory>
     ensures { IfOk result (λ made. typing_of made ≡ m.step structs.now first a_faulty_array element.now) }
 {
     match element_fault(structs, first, element) {
@@ -131,7 +153,13 @@ pub fn faulty_array_of(alloc: Global, structs: &Structs, first: Place, element: 
 
 /// The function with these parameters that gives a result. C28 at the first token of the declarator, where the result is
 /// an array or a function.
-pub fn function_of(alloc: Global, first: Place, ty: &CType, parameters: TypeList, is_variadic: bool) -> Result<Typing, NoMemory>
+pub fn function_of(
+    alloc: Global,
+    first: Place,
+    ty: &CType,
+    parameters: TypeList,
+    is_variadic: bool,
+) -> Result<Typing, NoMemory>
     ensures { IfOk result (λ made. typing_of made ≡ m.typed_unless (m.result_fault first ty.now) (c.plain (t.Function ty.now (t.types parameters) is_variadic))) }
 {
     if is_value_type(ty) {

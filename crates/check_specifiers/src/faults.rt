@@ -45,8 +45,7 @@ pub fn fault_at(place: Option<Place>, number: u32) -> Option<Fault>
 fn comes_first(f: &Fault, g: &Fault) -> bool
     ensures { result ≡ o.comes_first f.now g.now }
 {
-    f.place.order < g.place.order
-        || f.place.order == g.place.order && f.rule.number < g.rule.number
+    f.place.order < g.place.order || f.place.order == g.place.order && f.rule.number < g.rule.number
 }
 
 /// Of two faults, where there are any, the one that is named.

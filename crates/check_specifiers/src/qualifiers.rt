@@ -153,11 +153,7 @@ fn is_misplaced(list: &[Qualifier], ty: &CType) -> bool
         | TypeForm::Enum(..)
         | TypeForm::Pointer(_)
         | TypeForm::Struct(_)
-        | TypeForm::Function(..) => cannot_qualify(
-            list,
-            ty.quals(),
-            is_object_pointer(ty),
-        ),
+        | TypeForm::Function(..) => cannot_qualify(list, ty.quals(), is_object_pointer(ty)),
     }
 }
 

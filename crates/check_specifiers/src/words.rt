@@ -1,6 +1,7 @@
 //! The words of a list of specifiers, as far as they show what it declares without its parts being known
 //! (ISO/IEC 9899:2024, 6.7.1).
 ghost use Rattle.std.specs.Prelude.{◌≡◌, [], ◌∷◌};
+ghost use Rattle.std.specs.List.{list_any};
 ghost use Rattle.cake_base.specs.declared.places.Place.{Place};
 ghost use Rattle.c_tree.specs.SyntaxViews.{spec_of, specs_items};
 ghost use Rattle.model_checking.specs.Words as m;
@@ -189,4 +190,90 @@ pub(crate) fn inline_place(specs: &[Spec]) -> Option<Place>
         }
     }
     None
+}
+
+fn is_static(word: StorageWord) -> bool
+    ensures { (place : Place) → result ≡ m.is_static_word (m.a_storage_word word place) }
+{
+    match word {
+        StorageWord::Typedef => false,
+        StorageWord::Extern => false,
+        StorageWord::Static => true,
+        StorageWord::Auto => false,
+        StorageWord::Register => false,
+        StorageWord::Constexpr => false,
+    }
+}
+
+fn is_static_word(spec: &Spec) -> bool
+    ensures { result ≡ m.is_static_word (m.word_of (spec_of spec.now)) }
+{
+    match spec {
+        Spec::Storage { word, .. } => is_static(*word),
+        Spec::Function { .. } => false,
+        Spec::Keyword { .. } => false,
+        Spec::Qualifier(_) => false,
+        Spec::StructTag { .. } => false,
+        Spec::Struct { .. } => false,
+        Spec::EnumTag { .. } => false,
+        Spec::Enum { .. } => false,
+        Spec::TypedefName(_) => false,
+        Spec::TypeofExpr { .. } => false,
+        Spec::TypeofType { .. } => false,
+    }
+}
+
+/// Whether a list has the word `static`.
+pub(crate) fn has_static_word(specs: &[Spec]) -> bool
+    ensures { result ≡ list_any m.is_static_word (m.words_of (specs_items specs.now)) }
+{
+    for spec in specs {
+        if is_static_word(spec) {
+            return true;
+        }
+    }
+    false
+}
+
+fn is_auto(word: StorageWord) -> bool
+    ensures { (place : Place) → result ≡ m.is_auto_word (m.a_storage_word word place) }
+{
+    match word {
+        StorageWord::Typedef => false,
+        StorageWord::Extern => false,
+        StorageWord::Static => false,
+        StorageWord::Auto => true,
+        StorageWord::Register => false,
+        StorageWord::Constexpr => false,
+    }
+}
+
+fn is_auto_word(spec: &Spec) -> bool
+    ensures { result ≡ m.is_auto_word (m.word_of (spec_of spec.now)) }
+{
+    match spec {
+        Spec::Storage { word, .. } => is_auto(*word),
+        Spec::Function { .. } => false,
+        Spec::Keyword { .. } => false,
+        Spec::Qualifier(_) => false,
+        Spec::StructTag { .. } => false,
+        Spec::Struct { .. } => false,
+        Spec::EnumTag { .. } => false,
+        Spec::Enum { .. } => false,
+        Spec::TypedefName(_) => false,
+        Spec::TypeofExpr { .. } => false,
+        Spec::TypeofType { .. } => false,
+    }
+}
+
+/// Whether a list has the word `auto`.
+pub(crate) fn has_auto_word(specs: &[Spec]) -> bool
+    ensures { result ≡ list_any m.is_auto_word (m.words_of (specs_items specs.now)) }
+{
+    for spec in specs {
+        if is_auto_word(spec) {
+            return true;
+        }
+    }
+    false
 }
