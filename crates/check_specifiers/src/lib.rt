@@ -3,6 +3,7 @@
 
 mod contexts;
 mod derivations;
+mod enumerations;
 mod faults;
 mod forms;
 mod qualifiers;
@@ -11,6 +12,9 @@ mod words;
 
 pub use contexts::{Context, takes_word};
 pub use derivations::{Typing, array_of, faulty_array_of, function_of, pointed};
+pub use enumerations::{
+    Enumeration, enum_type, enumerator_basic, enumerator_type, range_fault, typeof_type,
+};
 pub use faults::{constraint, fault_at, fault_if, first_of_faults};
 pub use qualifiers::{made_const, meeting_fault, qualified, qualifier_fault, with_all};
 pub use word_faults::{inline_fault, missing_type, storage_fault};
