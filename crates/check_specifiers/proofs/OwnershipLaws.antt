@@ -1,6 +1,6 @@
 -- Qualifiers on a type that is no array.
-use Rattle.std.proofs.Common.{◌≡◌, Bool, false, ◌&&◌, ◌||◌, not, List, refl}
-use Rattle.model_types.specs.Types.{CType, typed, Form, Void, Integer, Enum, Pointer, Array, Struct, Function, form_of_type, quals_of_type}
+use Rattle.std.proofs.Common.{◌≡◌, false, ◌&&◌, ◌||◌, not, List, refl}
+use Rattle.model_types.specs.Types.{CType, typed, Void, Integer, Enum, Pointer, Array, Struct, Function, form_of_type, quals_of_type}
 use Rattle.model_core.specs.CoreTypes.{no_quals}
 use Rattle.model_core.specs.TypedParts.{is_array, is_object_pointer}
 use Rattle.model_grammar.specs.declared.syntax.Qualifier.{Qualifier}
