@@ -1,0 +1,2 @@
+mod OwnershipLaws
+mod StorageLaws

@@ -1,0 +1,4 @@
+pub mod Contexts
+pub mod EnumerationTypes
+pub mod Storages
+pub mod Typings
