@@ -1,0 +1,10 @@
+pub mod Pairs
+pub mod BrokenValues
+pub mod BrokenNames
+pub mod BrokenOperators
+pub mod BrokenPointers
+pub mod BrokenCalls
+pub mod BrokenMembers
+pub mod BrokenAssignments
+pub mod BrokenChoices
+pub mod BrokenCasts
