@@ -98,6 +98,9 @@ has_address (a_target pointer) = true
 abbrev pub may_be_followed : List Structure → Form → Bool
 may_be_followed structs form = is_function_pointer form || points_to_complete structs form
 
+abbrev broken_integer : List Structure → (at : Place) → Operand → Pairs
+broken_integer structs at o = Beside (At at 9 (not (is_integer (form_of o.value)))) (broken_use structs o)
+
 -- `&`: C11; `*`: C12; `+`, `-` and `~` of integers and `!` of scalars: C09 at the operator
 abbrev pub broken_unary : List Structure → PrefixOp → (at first : Place) → Meaning → Pairs
 broken_unary structs prefix.Address at first m = At first 11 (not (has_address m))
@@ -107,9 +110,6 @@ broken_unary structs prefix.Minus at first m = broken_integer structs at (operan
 broken_unary structs prefix.Complement at first m = broken_integer structs at (operand first m)
 broken_unary structs prefix.Not at first m =
     Beside (At at 9 (not (is_scalar (form_of (operand first m).value)))) (broken_use structs (operand first m))
-
-abbrev broken_integer : List Structure → (at : Place) → Operand → Pairs
-broken_integer structs at o = Beside (At at 9 (not (is_integer (form_of o.value)))) (broken_use structs o)
 
 -- ---- what is changed
 

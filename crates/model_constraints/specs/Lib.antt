@@ -8,3 +8,7 @@ pub mod BrokenMembers
 pub mod BrokenAssignments
 pub mod BrokenChoices
 pub mod BrokenCasts
+pub mod BrokenSpecifiers
+pub mod BrokenDeclarators
+pub mod BrokenTags
+pub mod BrokenParameters
