@@ -7,6 +7,8 @@ use Rattle.model_types.specs.Structures.{Structure}
 use Rattle.model_types.specs.Layout.{is_complete}
 use Rattle.model_scopes.specs.Declarations.{Declaration}
 use Rattle.model_grammar.specs.declared.syntax.Qualifier.{Qualifier}
+use Rattle.model_grammar.specs.SyntaxForms as syntax
+use Rattle.c_tree.specs.SyntaxPlaces.{expr_first}
 use Rattle.model_core.specs.CoreTypes.{no_quals, pointer_to, is_void}
 use Rattle.model_core.specs.PossibleTypes.{length_fits, is_value_form}
 use Rattle.model_core.specs.TypedParts.{is_function}
@@ -34,27 +36,27 @@ broken_size structs first element length =
 abbrev pub broken_result : (first : Place) → (result : CType) → Pairs
 broken_result first result = At first 28 (not (is_value_form (form_of_type result)))
 
-abbrev pub broken_step : List Structure → (first : Place) → Derivation → CType → Pairs
-broken_step structs first (a_pointer qualifiers) type = broken_qualifiers qualifiers (pointer_to type)
-broken_step structs first (an_array length) type = Beside (broken_elements structs first type) (broken_size structs first type length)
-broken_step structs first a_faulty_array type = broken_elements structs first type
-broken_step structs first (a_function parameters is_variadic entries) type = broken_result first type
-broken_step structs first (a_faulty_function count parameters is_variadic entries) type = broken_result first type
+abbrev pub broken_derivation : List Structure → (first : Place) → Derivation → CType → Pairs
+broken_derivation structs first (a_pointer qualifiers) type = broken_qualifiers qualifiers (pointer_to type)
+broken_derivation structs first (an_array length) type = Beside (broken_elements structs first type) (broken_size structs first type length)
+broken_derivation structs first a_faulty_array type = broken_elements structs first type
+broken_derivation structs first (a_function parameters is_variadic entries) type = broken_result first type
+broken_derivation structs first (a_faulty_function count parameters is_variadic entries) type = broken_result first type
 
 -- of a type that isn't known: C29 where `_Owner` and `_View` meet
-abbrev pub broken_step_from_unknown : Derivation → Pairs
-broken_step_from_unknown (a_pointer qualifiers) = At_if_any (ownership_place qualifiers) 29 (do_meet (with_all qualifiers no_quals))
-broken_step_from_unknown step = Nothing
+abbrev pub broken_from_unknown : Derivation → Pairs
+broken_from_unknown (a_pointer qualifiers) = At_if_any (ownership_place qualifiers) 29 (do_meet (with_all qualifiers no_quals))
+broken_from_unknown step = Nothing
 
-abbrev pub broken_step_from : List Structure → (first : Place) → Derivation → Option CType → Pairs
-broken_step_from structs first step (Some type) = broken_step structs first step type
-broken_step_from structs first step None = broken_step_from_unknown step
+abbrev pub broken_derivation_from : List Structure → (first : Place) → Derivation → Option CType → Pairs
+broken_derivation_from structs first step (Some type) = broken_derivation structs first step type
+broken_derivation_from structs first step None = broken_from_unknown step
 
 -- the steps of a declarator, the last one first, from the type of the specifiers
 abbrev pub broken_derived : List Structure → (first : Place) → Option CType → List Derivation → Pairs
 broken_derived structs first base [] = Nothing
 broken_derived structs first base (d ∷ ds) =
-    Beside (broken_derived structs first base ds) (broken_step_from structs first d (derived structs first base ds).type)
+    Beside (broken_derived structs first base ds) (broken_derivation_from structs first d (derived structs first base ds).type)
 
 -- ---- C28: a parameter of type void, at the parameter
 
@@ -71,12 +73,12 @@ abbrev broken_inner_void : List Derivation → Pairs
 broken_inner_void [] = Nothing
 broken_inner_void (d ∷ ds) = broken_void_in ds
 
--- what a declarator's type breaks, with the steps that it derives from the type of the specifiers, if that is known
+-- what a declarator breaks by its type, with the steps that it derives from the type of the specifiers, if that is known
 abbrev pub broken_type : List Structure → (first : Place) → Option CType → Steps → Pairs
 broken_type structs first base x = Beside (broken_inner_void x.steps) (broken_derived structs first base x.steps)
 
 -- ---- C25: a length is positive, at its first token
 
-abbrev pub broken_length : (first : Place) → Option ℤ → Pairs
-broken_length first None = Nothing
-broken_length first (Some value) = At first 25 (not (int_lt (pos 0) value))
+abbrev pub broken_length : syntax.MaybeExpr → Option ℤ → Pairs
+broken_length (syntax.an_expr e) (Some value) = At (expr_first e) 25 (not (int_lt (pos 0) value))
+broken_length length value = Nothing

@@ -12,3 +12,4 @@ pub mod BrokenSpecifiers
 pub mod BrokenDeclarators
 pub mod BrokenTags
 pub mod BrokenParameters
+pub mod BrokenInitializers

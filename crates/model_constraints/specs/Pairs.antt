@@ -1,9 +1,9 @@
 -- The constraints that a part of a unit breaks, as pairs of a place and the number of a rule; and the first of them.
-use Rattle.std.specs.Prelude.{◌≡◌, ◌⊎◌, ◌<◌, ◌≤◌, ℕ, Bool, true, Option, Some, None, Ok, Err}
+use Rattle.std.specs.Prelude.{◌≡◌, ◌⊎◌, ◌<◌, ◌≤◌, ℕ, Bool, true, false, Option, Some, None, Result, Ok, Err}
 use Rattle.cake_base.specs.declared.places.Place.{Place}
 use Rattle.cake_base.specs.declared.rules.Fault.{Fault}
 use Rattle.model_scopes.specs.DeclarationRules.{constraint_at}
-use Rattle.model_checking.specs.State.{State, Answer}
+use Rattle.model_checking.specs.State.{State, Both, Answer}
 
 abbrev pub Pairs : Type 1
 Pairs = Place → ℕ → Type 0
@@ -32,6 +32,30 @@ Behind (Err fault) Q place rule = ⊥
 -- what a part breaks, or what needs the part and comes behind it
 abbrev pub Needs : {A : Type 0} → Answer A → Pairs → (A → State → Pairs) → Pairs
 Needs part P Q = Beside P (Behind part Q)
+
+-- what is broken where a part has no answer
+abbrev pub Without : {A : Type 0} → Answer A → Pairs → Pairs
+Without (Ok x) P place rule = ⊥
+Without (Err fault) P place rule = P place rule
+
+-- what is broken by what is known, whatever its faults are
+abbrev pub In : {A : Type 0} → Both A → (A → State → Pairs) → Pairs
+In x Q = Q x.made x.state
+
+-- what is broken where something is made
+abbrev pub IfMade : {A : Type 0} → Result A Fault → (A → Pairs) → Pairs
+IfMade (Ok x) Q place rule = Q x place rule
+IfMade (Err fault) Q place rule = ⊥
+
+-- what is broken where this holds
+abbrev pub If : Bool → Pairs → Pairs
+If true P place rule = P place rule
+If false P place rule = ⊥
+
+-- what is broken where there is no fault
+abbrev pub Unless : Option Fault → Pairs → Pairs
+Unless None P place rule = P place rule
+Unless (Some fault) P place rule = ⊥
 
 -- what is broken where something is there
 abbrev pub IfAny : {A : Type 0} → Option A → (A → Pairs) → Pairs
