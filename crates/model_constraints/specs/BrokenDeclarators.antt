@@ -73,9 +73,10 @@ abbrev broken_inner_void : List Derivation → Pairs
 broken_inner_void [] = Nothing
 broken_inner_void (d ∷ ds) = broken_void_in ds
 
--- what a declarator breaks by its type, with the steps that it derives from the type of the specifiers, if that is known
-abbrev pub broken_type : List Structure → (first : Place) → Option CType → Steps → Pairs
-broken_type structs first base x = Beside (broken_inner_void x.steps) (broken_derived structs first base x.steps)
+-- what a declarator breaks: its lengths and parameters by themselves, and its type, with the steps that it derives from
+-- the type of the specifiers, if that is known
+abbrev pub broken_declarator : List Structure → (first : Place) → (base : Option CType) → (own : Pairs) → Steps → Pairs
+broken_declarator structs first base own x = Beside own (Beside (broken_inner_void x.steps) (broken_derived structs first base x.steps))
 
 -- ---- C25: a length is positive, at its first token
 

@@ -38,8 +38,8 @@ use Rattle.model_constraints.specs.BrokenMembers.{broken_member, broken_arrow}
 use Rattle.model_constraints.specs.BrokenAssignments.{broken_left_side, broken_assigned, broken_assigned_by}
 use Rattle.model_constraints.specs.BrokenChoices.{broken_chosen_by, broken_branches}
 use Rattle.model_constraints.specs.BrokenCasts.{broken_cast, broken_measure, broken_literal_type, broken_definition_form}
-use Rattle.model_constraints.specs.BrokenSpecifiers.{broken_words, broken_specified, broken_typedef_name}
-use Rattle.model_constraints.specs.BrokenDeclarators.{broken_type, broken_void, broken_length}
+use Rattle.model_constraints.specs.BrokenSpecifiers.{broken_specifiers, broken_typedef_name}
+use Rattle.model_constraints.specs.BrokenDeclarators.{broken_declarator, broken_void, broken_length}
 use Rattle.model_constraints.specs.BrokenTags.{broken_struct_tag, broken_enum_tag, broken_fixed_tag, broken_braces_tag, broken_memberless, broken_member_name, broken_member_type, broken_structure_size, broken_fixed_type, broken_enumerator_name, broken_enumerator_value}
 use Rattle.model_constraints.specs.BrokenParameters.{broken_parameter_name, broken_parameter}
 use Rattle.model_constraints.specs.BrokenInitializers.{broken_initialization}
@@ -153,15 +153,10 @@ abbrev mutual
 
   pub broken_type_name : Use → State → syntax.TypeName → Pairs
   broken_type_name u s (syntax.type_name specs d) =
-      Needs (specifiers of_type_name specs (types_in u false s specs)) (broken_specs of_type_name u false s specs) (λ given s.
-      broken_declarator u given.type (type_name_place (syntax.type_name specs d)) s d)
+      Needs (specifiers of_type_name specs (types_in u false s specs)) (broken_specifiers of_type_name specs (types_in u false s specs) (broken_types u false s specs)) (λ given s.
+      broken_declarator s.scopes.structs (type_name_place (syntax.type_name specs d)) given.type (broken_derivations u s d) (derivations u s d).made)
 
-  -- a whole list: its words, and beside them what stands in it, one behind another, and the type that it gives
-  pub broken_specs : Context → Use → (is_lone : Bool) → State → syntax.Specs → Pairs
-  broken_specs context u lone s specs =
-      Beside (broken_words context specs)
-      (Needs (types_in u lone s specs) (broken_types u lone s specs) (λ given s. broken_specified given specs))
-
+  -- what stands in a list, one behind another
   pub broken_types : Use → (is_lone : Bool) → State → syntax.Specs → Pairs
   broken_types u lone s syntax.no_specs = Nothing
   broken_types u lone s (syntax.more_specs first others) =
@@ -195,7 +190,7 @@ abbrev mutual
   pub broken_fixed : Use → State → (place : Place) → syntax.MaybeSpecs → Pairs
   broken_fixed u s place syntax.none_of_specs = Nothing
   broken_fixed u s place (syntax.some_specs specs) =
-      Needs (specifiers of_type_name specs (types_in u false s specs)) (broken_specs of_type_name u false s specs) (λ given s.
+      Needs (specifiers of_type_name specs (types_in u false s specs)) (broken_specifiers of_type_name specs (types_in u false s specs) (broken_types u false s specs)) (λ given s.
       broken_fixed_type (place_or (specs_first specs) place) given.type)
 
   -- ---- structures and enumerations
@@ -208,7 +203,7 @@ abbrev mutual
 
   pub broken_member_declaration : Use → List Member → State → syntax.MemberDeclaration → Pairs
   broken_member_declaration u ms s (syntax.MemberDeclarators specs ds) =
-      Needs (specifiers of_member specs (types_in u false s specs)) (broken_specs of_member u false s specs) (λ given s.
+      Needs (specifiers of_member specs (types_in u false s specs)) (broken_specifiers of_member specs (types_in u false s specs) (broken_types u false s specs)) (λ given s.
       broken_member_declarators u given ms s ds)
   broken_member_declaration u ms s (syntax.MemberAssertion a) = broken_assertion u s a
 
@@ -216,7 +211,7 @@ abbrev mutual
   broken_member_declarators u given ms s syntax.no_declarators = Nothing
   broken_member_declarators u given ms s (syntax.more_declarators first others) =
       Beside (broken_member_name ms (declarator_name first))
-      (Beside (broken_declarator u given.type (named_first first) s first)
+      (Beside (broken_declarator s.scopes.structs (named_first first) given.type (broken_derivations u s first) (derivations u s first).made)
       (In (declarator given (named_first first) first s (derivations u s first)) (λ d s.
       Beside (broken_member_type s.scopes.structs d.first d.type)
       (Behind (next_member u ms first d s) (λ ms s. broken_member_declarators u given ms s others)))))
@@ -230,11 +225,7 @@ abbrev mutual
       Beside (broken_enumerator_name e name s) (broken_enumerator_value e name (value_behind previous given))))
       (Behind (enumerator e previous name s (constant u s value)) (λ next s. broken_enumerators u e (Some next) s others)))
 
-  -- ---- declarators, from the type of their specifiers, if that is known
-
-  pub broken_declarator : Use → Option CType → (first : Place) → State → syntax.Declarator → Pairs
-  broken_declarator u base first s d =
-      Beside (broken_derivations u s d) (broken_type s.scopes.structs first base (derivations u s d).made)
+  -- ---- declarators: what their lengths and parameters break
 
   pub broken_derivations : Use → State → syntax.Declarator → Pairs
   broken_derivations u s (syntax.Named pointers name suffixes) = broken_suffixes u s suffixes
@@ -257,9 +248,9 @@ abbrev mutual
   pub broken_parameters : Use → (is_alone : Bool) → State → syntax.Parameters → Pairs
   broken_parameters u alone s syntax.no_parameters = Nothing
   broken_parameters u alone s (syntax.more_parameters (syntax.parameter specs d first) others) =
-      Beside (Needs (specifiers of_parameter specs (types_in u false s specs)) (broken_specs of_parameter u false s specs) (λ given s.
+      Beside (Needs (specifiers of_parameter specs (types_in u false s specs)) (broken_specifiers of_parameter specs (types_in u false s specs) (broken_types u false s specs)) (λ given s.
       Beside (broken_parameter_name (declarator_name d) s)
-      (Beside (broken_declarator u given.type (first_or first d) s d)
+      (Beside (broken_declarator s.scopes.structs (first_or first d) given.type (broken_derivations u s d) (derivations u s d).made)
       (In (declarator given (first_or first d) d s (derivations u s d)) (λ x s. broken_parameter d x s)))))
       (Behind (parameter_in u alone s specs d first) (λ type s. broken_parameters u false s others))
 

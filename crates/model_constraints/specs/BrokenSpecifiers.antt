@@ -17,7 +17,7 @@ use Rattle.model_checking.specs.SpecifierTypes.{type_or_words}
 use Rattle.model_checking.specs.SpecifierWords.{combines, first_place, lacks_type, shows_no_pointer}
 use Rattle.model_checking.specs.State.{State, Answer}
 use Rattle.model_checking.specs.Words.{Word, a_storage_word, words_of, place_of_word, has_type_specifier, is_auto_word, is_extern_word, is_inline_word, is_static_word, is_typedef_word, qualifiers_of}
-use Rattle.model_constraints.specs.Pairs.{Pairs, Nothing, At, At_if_any, Beside, IfAny}
+use Rattle.model_constraints.specs.Pairs.{Pairs, Nothing, At, At_if_any, Beside, Needs, IfAny}
 
 -- what each word of a list breaks, with those before it
 abbrev pub each_word : (List Word → Word → Pairs) → (before : List Word) → List Word → Pairs
@@ -72,6 +72,10 @@ broken_qualifiers list type = At_if_any (ownership_place list) 29 (is_misplaced 
 abbrev pub broken_specified : (given : Option CType) → syntax.Specs → Pairs
 broken_specified given specs = IfAny (type_or_words given (words_of specs)) (broken_qualifiers (qualifiers_of (words_of specs)))
 
+-- a whole list: its words, and beside them what its parts break, one behind another, and the type that they give
+abbrev pub broken_specifiers : Context → syntax.Specs → Answer (Option CType) → (own : Pairs) → Pairs
+broken_specifiers context specs parts own = Beside (broken_words context specs) (Needs parts own (λ given s. broken_specified given specs))
+
 -- ---- C05: a typedef name is that of a type
 
 abbrev is_type_name : Option Declared → Bool
@@ -89,7 +93,7 @@ is_other_storage word = false
 
 abbrev one_declares_function : (given : Option CType) → syntax.InitDeclarators → Bool
 one_declares_function given syntax.no_init_declarators = false
-one_declares_function given (syntax.more_init_declarators (syntax.init_declarator d initializer) others) =
+one_declares_function given (syntax.more_init_declarators (syntax.init_declarator d _) others) =
     declares_function given d || one_declares_function given others
 
 -- C48: a function in a block has no word of storage but `extern`

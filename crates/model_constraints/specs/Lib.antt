@@ -13,3 +13,4 @@ pub mod BrokenDeclarators
 pub mod BrokenTags
 pub mod BrokenParameters
 pub mod BrokenInitializers
+pub mod BrokenParts
