@@ -14,3 +14,4 @@ pub mod BrokenTags
 pub mod BrokenParameters
 pub mod BrokenInitializers
 pub mod BrokenParts
+pub mod BrokenDeclarations
