@@ -15,3 +15,6 @@ pub mod BrokenParameters
 pub mod BrokenInitializers
 pub mod BrokenParts
 pub mod BrokenDeclarations
+pub mod Firsts
+pub mod FirstDeclarations
+pub mod BrokenExpressions
