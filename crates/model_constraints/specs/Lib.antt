@@ -18,3 +18,5 @@ pub mod BrokenDeclarations
 pub mod Firsts
 pub mod FirstDeclarations
 pub mod BrokenExpressions
+pub mod FirstStatements
+pub mod FirstBroken
