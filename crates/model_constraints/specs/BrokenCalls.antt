@@ -1,7 +1,7 @@
 -- What calls break (ISO/IEC 9899:2024, 6.5.3.3).
 use Rattle.std.specs.Prelude.{ℕ, zero, suc, Bool, true, false, ◌&&◌, ◌||◌, not, List}
 use Rattle.cake_base.specs.declared.places.Place.{Place}
-use Rattle.model_types.specs.Types.{CType, Form, Function, Types, no_types, more_types, form_of_type}
+use Rattle.model_types.specs.Types.{Form, Function, Types, no_types, more_types, form_of_type}
 use Rattle.model_types.specs.Structures.{Structure}
 use Rattle.model_types.specs.Layout.{is_complete}
 use Rattle.model_core.specs.CoreTypes.{is_void, pointee}

@@ -1,8 +1,8 @@
 -- What casts, `sizeof` and `alignof` break, and what the types of literals do (ISO/IEC 9899:2024, 6.5.3.6, 6.5.4.5, 6.5.5).
-use Rattle.std.specs.Prelude.{Bool, true, false, ◌&&◌, ◌||◌, not, List, Option, Some, None}
+use Rattle.std.specs.Prelude.{Bool, true, false, ◌&&◌, ◌||◌, not, List, None}
 use Rattle.cake_base.specs.declared.places.Place.{Place}
 use Rattle.model_types.specs.declared.numbers.Basic.TheVariants as basic
-use Rattle.model_types.specs.Types.{CType, Form, Void, Integer, Enum, Pointer, Array, Struct, Function, form_of_type}
+use Rattle.model_types.specs.Types.{CType, Form, Void, Integer, Enum, Pointer, Array, Function, form_of_type}
 use Rattle.model_types.specs.Structures.{Structure}
 use Rattle.model_types.specs.Layout.{is_complete}
 use Rattle.model_core.specs.CoreTypes.{is_void}

@@ -3,7 +3,7 @@ use Rattle.std.specs.Prelude.{Bool, ◌&&◌, ◌||◌, not, List}
 use Rattle.cake_base.specs.declared.places.Place.{Place}
 use Rattle.model_types.specs.Structures.{Structure}
 use Rattle.model_core.specs.CoreTypes.{is_void, is_pointer, type_of}
-use Rattle.model_core.specs.SameTypes.{is_null_constant, same_form}
+use Rattle.model_core.specs.SameTypes.{same_form}
 use Rattle.model_core.specs.TypedParts.{is_scalar, is_struct}
 use Rattle.model_core.specs.TypedExpr.{form_of}
 use Rattle.model_core.specs.Core as unit

@@ -1,6 +1,6 @@
 -- What declarations break (ISO/IEC 9899:2024, 6.7, 6.7.10, 6.9.2, 6.9.3): at their specifiers, at the name and the first
 -- token of each declarator, and by its initializer.
-use Rattle.std.specs.Prelude.{Bool, true, false, ◌&&◌, ◌||◌, not, List, [], Option, Some, None, is_some, unwrap_or}
+use Rattle.std.specs.Prelude.{Bool, true, false, ◌&&◌, ◌||◌, not, List, Option, Some, None, is_some, unwrap_or}
 use Rattle.cake_base.specs.declared.places.Place.{Place}
 use Rattle.cake_base.specs.declared.rules.Fault.{Fault}
 use Rattle.model_types.specs.Structures.{Structure}
@@ -24,7 +24,6 @@ use Rattle.model_checking.specs.Declaring.{Bound, wants_complete, lacks_constant
 use Rattle.model_checking.specs.Derivations.{own_parameter_count}
 use Rattle.model_checking.specs.Elaborated.{expr, types_in, derivations, initializer}
 use Rattle.model_checking.specs.Inference.{may_infer, setting_in, inferred, inferred_type, bind_inferred}
-use Rattle.model_checking.specs.Meanings.{Operand}
 use Rattle.model_checking.specs.OwnName.{names_itself, declares_again}
 use Rattle.model_checking.specs.Parts.{Specified, Declared, Given, a_value}
 use Rattle.model_checking.specs.Reading.{Ends, as_operand, named_first, specs_place}

@@ -1,12 +1,11 @@
 -- What declarators break by the types that they derive (ISO/IEC 9899:2024, 6.7.7.2 to 6.7.7.4): each constraint is asked
 -- where the type that it is about is known.
-use Rattle.std.specs.Prelude.{ℕ, ℤ, Bool, true, false, ◌&&◌, not, int_lt, pos, List, [], ◌∷◌, Option, Some, None}
+use Rattle.std.specs.Prelude.{ℕ, ℤ, ◌&&◌, not, int_lt, pos, List, [], ◌∷◌, Option, Some, None}
 use Rattle.cake_base.specs.declared.places.Place.{Place}
-use Rattle.model_types.specs.Types.{CType, Form, form_of_type}
+use Rattle.model_types.specs.Types.{CType, form_of_type}
 use Rattle.model_types.specs.Structures.{Structure}
 use Rattle.model_types.specs.Layout.{is_complete}
 use Rattle.model_scopes.specs.Declarations.{Declaration}
-use Rattle.model_grammar.specs.declared.syntax.Qualifier.{Qualifier}
 use Rattle.model_grammar.specs.SyntaxForms as syntax
 use Rattle.c_tree.specs.SyntaxPlaces.{expr_first}
 use Rattle.model_core.specs.CoreTypes.{no_quals, pointer_to, is_void}
@@ -15,7 +14,6 @@ use Rattle.model_core.specs.TypedParts.{is_function}
 use Rattle.model_checking.specs.Derivations.{Derivation, a_pointer, an_array, a_function, a_faulty_array, a_faulty_function, Steps, entries_of}
 use Rattle.model_checking.specs.DeclaratorTypes.{derived}
 use Rattle.model_checking.specs.Qualified.{ownership_place, do_meet, with_all}
-use Rattle.model_checking.specs.State.{State}
 use Rattle.model_constraints.specs.Pairs.{Pairs, Nothing, At, At_if_any, Beside}
 use Rattle.model_constraints.specs.BrokenSpecifiers.{broken_qualifiers}
 

@@ -1,7 +1,7 @@
 -- What expressions that no other holds break (ISO/IEC 9899:2024, 6.8.2 to 6.8.7): values that are dropped or returned,
 -- conditions, and values of `switch` and of `case`; and what jumps, labels and `defer` break by where they stand.
 use Rattle.std.specs.Ordering.{int_eq}
-use Rattle.std.specs.Prelude.{ℤ, Bool, true, false, ◌&&◌, ◌||◌, not, Option, Some, None}
+use Rattle.std.specs.Prelude.{ℤ, Bool, true, false, ◌&&◌, ◌||◌, not}
 use Rattle.std.specs.List.{list_any}
 use Rattle.cake_base.specs.declared.places.Place.{Place}
 use Rattle.model_types.specs.Operations.{convert}

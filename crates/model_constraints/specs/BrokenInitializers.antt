@@ -1,6 +1,6 @@
 -- What initializers break by the objects that they are for (ISO/IEC 9899:2024, 6.7.11): of each value, where it leads and
 -- whether it may be given to what is there; of the whole, the form of the object, and the length that it gives an array.
-use Rattle.std.specs.Prelude.{ℕ, nat_eq, Bool, true, false, ◌&&◌, not, List, [], ◌∷◌, length, Option, Some, None, is_some, option_and_then, if◌then◌else◌}
+use Rattle.std.specs.Prelude.{ℕ, nat_eq, Bool, true, false, ◌&&◌, not, List, [], ◌∷◌, Option, Some, None, is_some, option_and_then, if◌then◌else◌}
 use Rattle.cake_base.specs.declared.places.Place.{Place}
 use Rattle.model_types.specs.Types.{CType, typed, Form, Array, form_of_type}
 use Rattle.model_types.specs.Structures.{Structure}
@@ -18,7 +18,7 @@ use Rattle.model_checking.specs.Parts.{Given, a_value, a_text, in_braces, faulty
 use Rattle.model_checking.specs.Placing.{Placed, placement, given_first, lone, is_long_enough}
 use Rattle.model_checking.specs.Settling.{has_constant}
 use Rattle.model_checking.specs.State.{State}
-use Rattle.model_checking.specs.Ways.{Step, reached, step_to, start, behind, member_rank, Bare, a_string, a_value_of, is_character_array, takes, taker}
+use Rattle.model_checking.specs.Ways.{Step, reached, step_to, start, behind, member_rank, a_string, a_value_of, is_character_array, takes, taker}
 use Rattle.model_constraints.specs.Pairs.{Pairs, Nothing, At, Beside, If, IfAny, IfMade}
 use Rattle.model_constraints.specs.BrokenCasts.{awaits_length}
 use Rattle.model_constraints.specs.BrokenValues.{broken_use, broken_giving, broken_static}

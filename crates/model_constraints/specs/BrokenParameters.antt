@@ -1,11 +1,10 @@
 -- What parameters break (ISO/IEC 9899:2024, 6.7.7.4): at their names, and where one has type void.
-use Rattle.std.specs.Prelude.{Bool, ◌&&◌, not, Option, Some, None, is_some}
-use Rattle.model_types.specs.Types.{CType}
+use Rattle.std.specs.Prelude.{Option, Some, None}
 use Rattle.model_core.specs.CoreTypes.{int_type}
 use Rattle.model_grammar.specs.declared.syntax.Name.{Name}
 use Rattle.model_grammar.specs.SyntaxForms as syntax
 use Rattle.model_checking.specs.DeclaratorNames.{declarator_name}
-use Rattle.model_checking.specs.ParameterDeclarations.{parameter_declaration, is_plain_void}
+use Rattle.model_checking.specs.ParameterDeclarations.{parameter_declaration}
 use Rattle.model_checking.specs.Parts.{Declared}
 use Rattle.model_checking.specs.State.{State}
 use Rattle.model_constraints.specs.Pairs.{Pairs, Nothing, Beside, IfAny}

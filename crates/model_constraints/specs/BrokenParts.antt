@@ -12,7 +12,7 @@ use Rattle.model_grammar.specs.SyntaxForms as syntax
 use Rattle.c_tree.specs.SyntaxPlaces.{expr_first, specs_first}
 use Rattle.model_checking.specs.CallRules.{parameters_of, behind}
 use Rattle.model_checking.specs.CompoundLiterals.{is_at_file_scope}
-use Rattle.model_checking.specs.DeclarationContexts.{Context, of_parameter, of_member, of_type_name}
+use Rattle.model_checking.specs.DeclarationContexts.{of_parameter, of_member, of_type_name}
 use Rattle.model_checking.specs.DeclaratorNames.{declarator_name}
 use Rattle.model_checking.specs.DeclaratorTypes.{declarator}
 use Rattle.model_checking.specs.Derivations.{Steps}
@@ -43,7 +43,6 @@ use Rattle.model_constraints.specs.BrokenDeclarators.{broken_declarator, broken_
 use Rattle.model_constraints.specs.BrokenTags.{broken_struct_tag, broken_enum_tag, broken_fixed_tag, broken_braces_tag, broken_memberless, broken_member_name, broken_member_type, broken_structure_size, broken_fixed_type, broken_enumerator_name, broken_enumerator_value}
 use Rattle.model_constraints.specs.BrokenParameters.{broken_parameter_name, broken_parameter}
 use Rattle.model_constraints.specs.BrokenInitializers.{broken_initialization}
-
 
 -- a value that is wanted constant, with what it breaks by itself
 abbrev pub wanted_constant : Pairs → Answer Operand → Pairs

@@ -1,7 +1,6 @@
 -- What lists of specifiers break (ISO/IEC 9899:2024, 6.7.1 to 6.7.5, 6.7.9): at their words, and by the type that they give.
 use Rattle.std.specs.Prelude.{Bool, true, false, ◌&&◌, ◌||◌, not, List, [], ◌∷◌, ◌++◌, Option, Some, None}
 use Rattle.std.specs.List.{list_any}
-use Rattle.cake_base.specs.declared.places.Place.{Place}
 use Rattle.model_types.specs.Types.{CType}
 use Rattle.model_scopes.specs.Declarations.{is_typedef}
 use Rattle.model_scopes.specs.Binding.{look, declared_as}

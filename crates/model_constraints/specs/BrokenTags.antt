@@ -1,13 +1,13 @@
 -- What structures and enumerations break at their words, tags, members and enumerators (ISO/IEC 9899:2024, 6.7.3.2 to
 -- 6.7.3.4), and any declaration at its name.
-use Rattle.std.specs.Prelude.{ℕ, ℤ, pos, Bool, true, false, ◌&&◌, not, List, Option, Some, None}
+use Rattle.std.specs.Prelude.{ℤ, pos, Bool, true, false, not, List, Option, Some, None}
 use Rattle.std.specs.List.{list_any}
 use Rattle.cake_base.specs.declared.places.Place.{Place}
 use Rattle.model_types.specs.declared.numbers.Basic.{Basic}
 use Rattle.model_types.specs.Operations.{fits}
 use Rattle.model_types.specs.Structures.{Member, Structure}
 use Rattle.model_types.specs.Texts.{same_text}
-use Rattle.model_types.specs.Types.{CType, Form, form_of_type}
+use Rattle.model_types.specs.Types.{CType, form_of_type}
 use Rattle.model_types.specs.Layout.{is_complete}
 use Rattle.model_core.specs.PossibleTypes.{is_sized}
 use Rattle.model_core.specs.SameTypes.{is_integer}
@@ -18,10 +18,10 @@ use Rattle.model_scopes.specs.DeclarationRules.{earlier, standing, has_prefix, c
 use Rattle.model_scopes.specs.Scopes.{Declared, Scopes, is_defined}
 use Rattle.model_grammar.specs.declared.syntax.Name.{Name}
 use Rattle.model_grammar.specs.SyntaxForms as syntax
-use Rattle.model_checking.specs.Enumerations.{Enumeration, enum_found, enum_type, enumerator_declaration, enumerator_type}
+use Rattle.model_checking.specs.Enumerations.{Enumeration, enum_found, enumerator_declaration, enumerator_type}
 use Rattle.model_checking.specs.State.{State}
 use Rattle.model_checking.specs.Structures.{declares_member}
-use Rattle.model_checking.specs.Tags.{tag_declaration, tag_found, tag_here}
+use Rattle.model_checking.specs.Tags.{tag_found, tag_here}
 use Rattle.model_constraints.specs.Pairs.{Pairs, Nothing, At, Beside, IfAny}
 
 -- ---- a declaration at its name: C01, C02, C03, C04, C06, C07

@@ -1,15 +1,13 @@
 -- What a value breaks where it is used, given to an object or wanted constant (ISO/IEC 9899:2024, 6.3.3, 6.5.17.2, 6.6).
-use Rattle.std.specs.Prelude.{ℕ, Bool, true, false, ◌&&◌, ◌||◌, not, List, Option, Some, None, is_some}
-use Rattle.cake_base.specs.declared.places.Place.{Place}
+use Rattle.std.specs.Prelude.{ℕ, Bool, false, ◌&&◌, ◌||◌, not, List, is_some}
 use Rattle.model_types.specs.declared.numbers.Basic.TheVariants as basic
-use Rattle.model_types.specs.Types.{CType, Form, Void, Integer, Enum, Pointer, Array, Struct, Function, form_of_type, quals_of_type}
-use Rattle.model_types.specs.declared.types.Quals.{Quals}
+use Rattle.model_types.specs.Types.{CType, Form, Integer, Enum, Pointer, Struct, form_of_type}
 use Rattle.model_types.specs.Structures.{Structure}
 use Rattle.model_types.specs.Layout.{is_complete}
 use Rattle.model_core.specs.CoreTypes.{type_of, object_type, is_void, is_pointer}
 use Rattle.model_core.specs.SameTypes.{is_integer, is_null_constant, is_built_of_constants, constant_value, same_form}
 use Rattle.model_core.specs.StaticValues.{is_null_pointer, is_address, is_integer_constant}
-use Rattle.model_core.specs.TypedParts.{is_scalar, is_object_pointer, is_function, comparable}
+use Rattle.model_core.specs.TypedParts.{is_scalar, comparable}
 use Rattle.model_core.specs.TypedExpr.{form_of}
 use Rattle.model_core.specs.Core as unit
 use Rattle.model_checking.specs.Qualifiers.{quals_behind, loses}

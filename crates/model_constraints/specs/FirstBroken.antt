@@ -1,7 +1,7 @@
 -- The first constraint that a unit breaks (ISO/IEC 9899:2024, 6.9): declaration by declaration, with the bodies of functions
 -- behind their declarators and those of function literals behind the full expressions that they stand in; and C08 at the
 -- end.
-use Rattle.std.specs.Prelude.{◌⊎◌, ℕ, zero, suc, Bool, true, false, List, [], ◌∷◌, Option, Some, None, if◌then◌else◌}
+use Rattle.std.specs.Prelude.{ℕ, zero, suc, Bool, true, false, List, [], ◌∷◌, if◌then◌else◌}
 use Rattle.cake_base.specs.declared.rules.Fault.{Fault}
 use Rattle.model_types.specs.Types.{CType, form_of_type}
 use Rattle.model_core.specs.CoreTypes.{result_of_form}

@@ -1,7 +1,7 @@
 -- The first constraint that a declaration breaks (ISO/IEC 9899:2024, 6.7): its specifiers come before its declarators, and
 -- each declarator before its initializer; the bodies of the function literals in each come behind it, and those of a value
 -- in braces before the next value. What is done at the end of a full expression is given, and what is first in the bodies.
-use Rattle.std.specs.Prelude.{Bool, true, false, not, List, [], ◌∷◌, Option, Some, None, is_some}
+use Rattle.std.specs.Prelude.{Bool, true, false, not, Option, None, is_some}
 use Rattle.model_grammar.specs.SyntaxForms as syntax
 use Rattle.model_core.specs.CoreTypes.{type_of}
 use Rattle.model_core.specs.Core as unit
@@ -17,7 +17,7 @@ use Rattle.model_checking.specs.Parts.{Specified}
 use Rattle.model_checking.specs.ReadInitializers.{stops}
 use Rattle.model_checking.specs.Reading.{Ends, as_operand, as_constant, named_first}
 use Rattle.model_checking.specs.Settling.{with_initializer, step_fault, steps_fault}
-use Rattle.model_checking.specs.State.{Use, State, with_both, Answer, gives, then_do, and_then}
+use Rattle.model_checking.specs.State.{Use, State, with_both, Answer, gives, then_do}
 use Rattle.model_checking.specs.Tags.{is_lone}
 use Rattle.model_constraints.specs.BrokenDeclarations.{broken_declaration_specifiers, broken_bound, broken_initialized, broken_inference, uses_itself}
 use Rattle.model_constraints.specs.BrokenParts.{broken_assertion}

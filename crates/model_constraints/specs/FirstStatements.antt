@@ -2,7 +2,6 @@
 -- profile's own): its parts come one behind another, and the bodies of the function literals of each full expression
 -- behind it. What is done at the end of a full expression is given, and what is first in the bodies.
 use Rattle.model_grammar.specs.SyntaxForms as syntax
-use Rattle.model_core.specs.Core as unit
 use Rattle.model_checking.specs.DeclarationContexts.{in_block, in_for, in_if}
 use Rattle.model_checking.specs.Declarations.{declaration, maybe_declaration}
 use Rattle.model_checking.specs.Elaborated.{expr}
