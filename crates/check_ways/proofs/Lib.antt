@@ -1,0 +1,3 @@
+pub mod InwardSteps
+pub mod InwardLaws
+pub mod RankLaws

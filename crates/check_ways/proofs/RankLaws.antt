@@ -1,0 +1,2 @@
+-- The rank of a member by its name.
+use Rattle.std.proofs.Common.{◌≡◌}
