@@ -54,6 +54,7 @@ pub(crate) fn member_in(structs: &Structs, id: StructId, rank: u64) -> Option<&M
 }
 
 /// The rank, counted from 0, of the first member of a name.
+#[tactic(auto, using(crate::proofs::RankLaws::rank_is_position))]
 fn rank_among(name: &[u8], members: &Members) -> Option<u64>
     ensures { result ≡ w.rank_from name.now 0 members.now }
 {

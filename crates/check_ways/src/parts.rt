@@ -1,10 +1,10 @@
 //! The elements of arrays and the members of structures, one behind another.
-ghost use Rattle.std.specs.Prelude.{◌≡◌, ◌+◌, [], ◌∷◌, Option, Some, None, IfOk, OnOk};
+ghost use Rattle.std.specs.Prelude.{◌≡◌, ◌+◌, [], ◌∷◌, Option, Some, None, false, IfOk, OnOk};
 ghost use Rattle.model_types.specs.Types as t;
 ghost use Rattle.model_types.specs.Types.{form_of_type};
 ghost use Rattle.c_types.specs.Forms.{form_of};
 ghost use Rattle.model_checking.specs.Ways as w;
-ghost use Rattle.check_ways.specs.Seen.{as_way};
+ghost use Rattle.check_ways.specs.Seen.{as_way, part_of_form};
 
 use crate::members::{member_in, member_type};
 use crate::way::{Step, Way};
@@ -39,7 +39,7 @@ fn ranked_member(
     id: StructId,
     rank: u64,
 ) -> Result<Option<CType>, NoMemory>
-    ensures { form_of_type whole.now ≡ t.Struct id → IfOk result (λ part. part ≡ w.part_type structs.now whole.now rank) }
+    ensures { IfOk result (λ part. part ≡ part_of_form structs.now (t.quals_of_type whole.now) (t.Struct id) rank) }
 {
     match member_in(structs, id, rank) {
         Some(member) => Ok(Some(member_type(alloc, whole.quals(), member.ty())?)),
@@ -48,6 +48,7 @@ fn ranked_member(
 }
 
 /// The type of the element or member of a rank, counted from 0.
+#[tactic(auto, using(crate::proofs::PartLaws::part_by_form))]
 fn part_type(
     alloc: Global,
     structs: &Structs,

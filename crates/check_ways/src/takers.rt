@@ -2,6 +2,7 @@
 ghost use Rattle.std.specs.Prelude.{◌≡◌, find, ◌&&◌, IfOk};
 ghost use Rattle.model_types.specs.Types as t;
 ghost use Rattle.model_types.specs.Types.{form_of_type};
+ghost use Rattle.model_types.specs.Layout as l;
 ghost use Rattle.model_core.specs.SameTypes.{same_form};
 ghost use Rattle.model_core.specs.TypedParts as p;
 ghost use Rattle.c_types.specs.Forms.{form_of};
@@ -110,6 +111,20 @@ pub fn takes(bare: &Bare, form: &TypeForm) -> bool
     is_scalar(form) || takes_whole(bare, form)
 }
 
+/// How many structures are complete.
+#[tactic(auto, using(crate::proofs::CountLaws::one_counted))]
+fn complete_count(structs: &Structs) -> u32
+    ensures { result ≡ l.complete_count structs.now }
+{
+    let mut count = 0;
+    for at in 0..structs.count() {
+        if structs.find_members(StructId(at)).is_some() {
+            count += 1;
+        }
+    }
+    count
+}
+
 /// Goes inward, from the subobject to which a way leads, to the first that takes what stands without braces.
 pub fn taker(
     alloc: Global,
@@ -120,11 +135,12 @@ pub fn taker(
 ) -> Result<bool, NoMemory>
     ensures { IfOk result (λ found. as_way found way.new ≡ w.taker structs.now (bare_of bare.now) object.now way.old) }
 {
-    go_inward(alloc, structs, structs.count(), bare, object, way)
+    go_inward(alloc, structs, complete_count(structs), bare, object, way)
 }
 
 /// Goes inward, in structures that lie in one another at most this deep.
 #[cycle(taker)]
+#[tactic(auto, using(crate::proofs::InwardLaws::taken_here, crate::proofs::InwardLaws::taken_inside))]
 fn go_inward(
     alloc: Global,
     structs: &Structs,
