@@ -32,6 +32,7 @@ fn element_type(
     }
 }
 
+#[tactic(auto, using(crate::proofs::PartLaws::ranked))]
 fn ranked_member(
     alloc: Global,
     structs: &Structs,
