@@ -5,7 +5,7 @@ use Rattle.check_ways.proofs.takers.complete_count.Goals as goal
 pub loop-at-preserved : goal.loop-at-preserved
 loop-at-preserved c =
     let within : c.loop-at.at < length c.args.structs.now = omega (arith, c.loop-at-test.true, c.count-at-end.ensures) in
-    count_on c.args.structs.now c.loop-at.at c.loop-at.count c.counted.result within c.loop-at.invariant.0 c.counted.ensures c.loop-at.invariant.1
+    count_on c.args.structs.now c.loop-at.at c.loop-at.count c.counted-count.result within c.loop-at.invariant.0 c.counted-count.ensures c.loop-at.invariant.1
 
 pub returns : goal.returns
 returns c =
