@@ -69,6 +69,7 @@ pub fn place_string(
 }
 
 /// A string that is given.
+#[derive(Drop)]
 pub struct GivenString<'a> {
     pub object: DeclId,
     pub bytes: &'a Bytes,
