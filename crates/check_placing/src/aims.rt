@@ -1,33 +1,20 @@
 //! Which subobject takes what is given, from where it begins.
 ghost use Rattle.std.specs.Prelude.{◌≡◌, Result, Ok, Err, IfOk, IfErr, OnOk};
 ghost use Rattle.model_types.specs.Types.{form_of_type};
-ghost use Rattle.model_core.specs.CoreTypes.{type_of};
 ghost use Rattle.model_checking.specs.Ways as w;
 ghost use Rattle.model_checking.specs.Placing as p;
 ghost use Rattle.check_base.specs.Broken.{Broken};
-ghost use Rattle.check_base.specs.Meanings.{value_in};
 ghost use Rattle.check_ways.specs.Seen.{as_way, bare_of};
 ghost use Rattle.given_tree.specs.GivenViews.{given_of, steps_of};
 
-use crate::designators::begin;
-use crate::faults::{given_first, with_own};
+use crate::designators::{begin, is_array};
+use crate::faults::{given_first, value_type, with_own};
 use c_types::{CType, Structs};
 use cake_base::{NoMemory, Place};
-use check_base::{CheckError, OperandValue, constraint};
-use check_types::unqualified;
-use check_values::is_array;
+use check_base::{CheckError, constraint};
 use check_ways::{Bare, Way, taker, takes};
 use given_tree::{GivenForm, GivenStep};
 use std::alloc::Global;
-
-fn value_type(alloc: Global, value: &OperandValue) -> Result<CType, NoMemory>
-    ensures { IfOk result (λ ty. ty ≡ type_of (value_in value.now)) }
-{
-    match value {
-        OperandValue::Read(value) => value.ty().copy(alloc),
-        OperandValue::Unread(object) => unqualified(alloc, object.ty()),
-    }
-}
 
 /// Goes inward to what takes a string or a value; C35 where nothing does.
 fn to_taker(
@@ -84,7 +71,7 @@ pub fn aimed(
 {
     match begin(alloc, structs, object, there, steps, given_first(given), way) {
         Ok(()) => aimed_from(alloc, structs, object, given, way),
-        Err(CheckError::Fault(fault)) => Err(CheckError::Fault(with_own(structs, given, fault))),
+        Err(CheckError::Fault(fault)) => Err(CheckError::Fault(with_own(alloc, structs, given, fault)?)),
         Err(CheckError::Limit(hit)) => Err(CheckError::Limit(hit)),
         Err(CheckError::NotBuilt(place)) => Err(CheckError::NotBuilt(place)),
         Err(CheckError::NoMemory) => Err(CheckError::NoMemory),
@@ -102,6 +89,6 @@ pub fn fits_whole(alloc: Global, object: &CType, given: &GivenForm) -> Result<bo
             let ty = value_type(alloc, &operand.value)?;
             Ok(takes(&Bare::ValueOf(ty), object.form()))
         }
-        GivenForm::Faulty { .. } => Ok(!is_array(object)),
+        GivenForm::Faulty { .. } => Ok(!is_array(object.form())),
     }
 }

@@ -1,7 +1,8 @@
 //! Where designators lead (6.7.11, paragraph 7).
 ghost use Rattle.std.specs.Prelude.{◌≡◌, [], Result, Ok, Err, IfErr, OnOk};
 ghost use Rattle.model_types.specs.Types.{form_of_type};
-ghost use Rattle.model_core.specs.TypedParts.{is_array};
+ghost use Rattle.model_core.specs.TypedParts as t;
+ghost use Rattle.c_types.specs.Forms.{form_of};
 ghost use Rattle.model_checking.specs.Ways as w;
 ghost use Rattle.model_checking.specs.Ways.{reached};
 ghost use Rattle.model_checking.specs.Placing as p;
@@ -9,13 +10,27 @@ ghost use Rattle.check_base.specs.Broken.{Broken};
 ghost use Rattle.check_ways.specs.Seen.{as_way};
 ghost use Rattle.given_tree.specs.GivenViews.{step_of, steps_of};
 
-use c_types::{CType, Structs};
+use c_types::{CType, Structs, TypeForm};
 use cake_base::Place;
 use check_base::{CheckError, constraint};
-use check_values::is_array;
 use check_ways::{Way, member_rank, step_to};
 use given_tree::GivenStep;
 use std::alloc::Global;
+
+/// Whether a type is that of arrays.
+pub fn is_array(form: &TypeForm) -> bool
+    ensures { result ≡ t.is_array (form_of form.now) }
+{
+    match form {
+        TypeForm::Array(..) => true,
+        TypeForm::Integer(_) => false,
+        TypeForm::Enum(..) => false,
+        TypeForm::Pointer(_) => false,
+        TypeForm::Void => false,
+        TypeForm::Struct(_) => false,
+        TypeForm::Function(..) => false,
+    }
+}
 
 /// One step, to the element or member of a rank; C34 where there is none.
 fn enter(
@@ -48,7 +63,7 @@ fn designated_one(
 {
     match step {
         GivenStep::Element { index, place } => {
-            if is_array(whole) {
+            if is_array(whole.form()) {
                 enter(alloc, structs, whole, *index, *place, way)
             } else {
                 Err(CheckError::Fault(constraint(*place, 34)))
@@ -56,7 +71,7 @@ fn designated_one(
         }
         GivenStep::NoElement { place } => Err(CheckError::Fault(constraint(*place, 34))),
         GivenStep::FaultyIndex { fault, place } => {
-            if is_array(whole) {
+            if is_array(whole.form()) {
                 Err(CheckError::Fault(*fault))
             } else {
                 Err(CheckError::Fault(constraint(*place, 34)))

@@ -1,13 +1,19 @@
 //! Which of two broken rules is named.
-ghost use Rattle.std.specs.Prelude.{◌≡◌};
+ghost use Rattle.std.specs.Prelude.{◌≡◌, IfOk};
+ghost use Rattle.model_core.specs.CoreTypes as t;
+ghost use Rattle.model_core.specs.CoreTypes.{type_of};
+ghost use Rattle.model_checking.specs.MadeCore.{used_fault};
+ghost use Rattle.check_base.specs.Meanings.{operand_of, value_in};
 ghost use Rattle.model_checking.specs.FaultOrder as o;
 ghost use Rattle.model_checking.specs.Placing as p;
 ghost use Rattle.given_tree.specs.GivenViews.{given_of};
 
-use c_types::Structs;
-use cake_base::{Fault, Place};
-use check_values::used_fault;
+use c_types::{CType, Structs, TypeForm, is_complete};
+use cake_base::{Fault, NoMemory, Place};
+use check_base::{Operand, OperandValue, wants};
+use check_types::unqualified;
 use given_tree::GivenForm;
+use std::alloc::Global;
 
 fn comes_first(f: Fault, g: Fault) -> bool
     ensures { result ≡ o.comes_first f g }
@@ -35,17 +41,55 @@ pub fn given_first(given: &GivenForm) -> Place
     }
 }
 
+/// The type of a value.
+pub fn value_type(alloc: Global, value: &OperandValue) -> Result<CType, NoMemory>
+    ensures { IfOk result (λ ty. ty ≡ type_of (value_in value.now)) }
+{
+    match value {
+        OperandValue::Read(value) => value.ty().copy(alloc),
+        OperandValue::Unread(object) => unqualified(alloc, object.ty()),
+    }
+}
+
+#[tactic(auto, using(crate::proofs::TypeTests::void_by_form))]
+fn is_void(ty: &CType) -> bool
+    ensures { result ≡ t.is_void ty.now }
+{
+    matches!(ty.form(), TypeForm::Void)
+}
+
+/// C21 or C22, where a value can't be used.
+fn value_fault(
+    alloc: Global,
+    structs: &Structs,
+    operand: &Operand,
+) -> Result<Option<Fault>, NoMemory>
+    ensures { IfOk result (λ fault. fault ≡ used_fault structs.now (operand_of operand.now)) }
+{
+    let ty = value_type(alloc, &operand.value)?;
+    if is_void(&ty) {
+        Ok(wants(false, operand.first, 21))
+    } else {
+        Ok(wants(is_complete(structs, &ty), operand.first, 22))
+    }
+}
+
 /// Of a fault at what is given and those that it has by itself, the first.
-pub fn with_own(structs: &Structs, given: &GivenForm, fault: Fault) -> Fault
-    ensures { result ≡ p.with_own structs.now (given_of given.now) fault }
+pub fn with_own(
+    alloc: Global,
+    structs: &Structs,
+    given: &GivenForm,
+    fault: Fault,
+) -> Result<Fault, NoMemory>
+    ensures { IfOk result (λ first. first ≡ p.with_own structs.now (given_of given.now) fault) }
 {
     match given {
-        GivenForm::Value { operand, .. } => match used_fault(structs, operand) {
-            Some(own) => first_fault(fault, own),
-            None => fault,
+        GivenForm::Value { operand, .. } => match value_fault(alloc, structs, operand)? {
+            Some(own) => Ok(first_fault(fault, own)),
+            None => Ok(fault),
         },
-        GivenForm::Text { .. } => fault,
-        GivenForm::Braces { .. } => fault,
-        GivenForm::Faulty { fault: own, .. } => first_fault(fault, *own),
+        GivenForm::Text { .. } => Ok(fault),
+        GivenForm::Braces { .. } => Ok(fault),
+        GivenForm::Faulty { fault: own, .. } => Ok(first_fault(fault, *own)),
     }
 }
