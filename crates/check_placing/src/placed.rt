@@ -52,9 +52,13 @@ impl Drop for PlacedList {
 impl Model for PlacedList {
     ghost use Rattle.std.specs.Prelude.{List};
     ghost use Rattle.model_checking.specs.Placing as p;
+    ghost use Rattle.std.specs.Coded.{coded_list};
     ghost use Rattle.check_placing.specs.Seen.{all_placed};
+    ghost use Rattle.check_placing.specs.apparatus.PlacedCode.{coded_placed};
 
     ghost Value = { List p.Placed };
+
+    ghost coded = { coded_list coded_placed };
 
     ghost view = { λ a. all_placed a.items.items };
 }
