@@ -48,9 +48,23 @@ fn aimed_from(
     match given {
         GivenForm::Value { operand, .. } => {
             let ty = value_type(alloc, &operand.value)?;
-            to_taker(alloc, structs, object, &Bare::ValueOf(ty), operand.first, way)
+            to_taker(
+                alloc,
+                structs,
+                object,
+                &Bare::ValueOf(ty),
+                operand.first,
+                way,
+            )
         }
-        GivenForm::Text { first, .. } => to_taker(alloc, structs, object, &Bare::String, *first, way),
+        GivenForm::Text { first, .. } => to_taker(
+            alloc,
+            structs,
+            object,
+            &Bare::String,
+            *first,
+            way,
+        ),
         GivenForm::Braces { .. } => Ok(()),
         GivenForm::Faulty { fault, .. } => Err(CheckError::Fault(*fault)),
     }
@@ -69,9 +83,19 @@ pub fn aimed(
     ensures ok { OnOk result (p.aimed structs.now object.now (given_of given.now) (p.begin structs.now object.now (as_way there way.old) (steps_of steps.now) (p.given_first (given_of given.now))) ≡ Ok way.new) }
     ensures err { IfErr result (λ e. Broken e (p.aimed structs.now object.now (given_of given.now) (p.begin structs.now object.now (as_way there way.old) (steps_of steps.now) (p.given_first (given_of given.now))))) }
 {
-    match begin(alloc, structs, object, there, steps, given_first(given), way) {
+    match begin(
+        alloc,
+        structs,
+        object,
+        there,
+        steps,
+        given_first(given),
+        way,
+    ) {
         Ok(()) => aimed_from(alloc, structs, object, given, way),
-        Err(CheckError::Fault(fault)) => Err(CheckError::Fault(with_own(alloc, structs, given, fault)?)),
+        Err(CheckError::Fault(fault)) => Err(CheckError::Fault(with_own(
+            alloc, structs, given, fault,
+        )?)),
         Err(CheckError::Limit(hit)) => Err(CheckError::Limit(hit)),
         Err(CheckError::NotBuilt(place)) => Err(CheckError::NotBuilt(place)),
         Err(CheckError::NoMemory) => Err(CheckError::NoMemory),

@@ -18,8 +18,7 @@ use std::alloc::Global;
 fn comes_first(f: Fault, g: Fault) -> bool
     ensures { result ≡ o.comes_first f g }
 {
-    f.place.order < g.place.order
-        || f.place.order == g.place.order && f.rule.number < g.rule.number
+    f.place.order < g.place.order || f.place.order == g.place.order && f.rule.number < g.rule.number
 }
 
 /// The fault whose place comes first; at one place the one with the smaller number.

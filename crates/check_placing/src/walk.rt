@@ -33,7 +33,14 @@ fn place_value(
     ensures { Walks out.old (p.alone (record { path = path; type = part.now; content = p.Value (value_in operand.now.value) later; first = operand.now.first })) result out.new }
 {
     let value = copy_value(alloc, &operand.value)?;
-    put(alloc, part, path, Content::Value { value, later }, operand.first, out)?;
+    put(
+        alloc,
+        part,
+        path,
+        Content::Value { value, later },
+        operand.first,
+        out,
+    )?;
     Ok(())
 }
 
@@ -87,7 +94,9 @@ fn place_braces(
     let inner = copy_path(alloc, path.as_slice())?;
     put(alloc, part, path, Content::Zeros, place, out)?;
     match whole_string(part, items) {
-        Some(s) => place_string(alloc, part, inner, s.object, s.bytes, s.address, s.first, out),
+        Some(s) => place_string(
+            alloc, part, inner, s.object, s.bytes, s.address, s.first, out,
+        ),
         None => place_list(alloc, structs, part, inner.as_slice(), items, out),
     }
 }

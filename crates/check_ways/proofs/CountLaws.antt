@@ -19,7 +19,7 @@ count_on structs at count next l h n e =
     let step : suc at ≡ at + 1 = omega arith in
     let moved : complete_count (drop (suc at) structs) ≡ complete_count (drop (at + 1) structs) = ap (λ k. complete_count (drop k structs)) step in
     let counted : (next ≤ at + 1) × (next + complete_count (drop (suc at) structs) ≡ complete_count structs) =
-        by_case (is_some (members_of structs (record { 0 = at }))) at count next (complete_count (drop at structs)) (complete_count (drop (suc at) structs)) (complete_count structs) h n (one_counted structs at l) e in
+    by_case (is_some (members_of structs (record { 0 = at }))) at count next (complete_count (drop at structs)) (complete_count (drop (suc at) structs)) (complete_count structs) h n (one_counted structs at l) e in
     (counted.0, omega (arith, moved, counted.1))
 
 none_left : (structs : List Structure) (at : ℕ) → length structs ≤ at → complete_count (drop at structs) ≡ 0

@@ -39,7 +39,10 @@ pub fn member_type(alloc: Global, structure: Quals, member: &CType) -> Result<CT
         | TypeForm::Enum(..)
         | TypeForm::Pointer(_)
         | TypeForm::Struct(_)
-        | TypeForm::Function(..) => member.with_quals(alloc, member_quals(structure, member.quals())),
+        | TypeForm::Function(..) => member.with_quals(
+            alloc,
+            member_quals(structure, member.quals()),
+        ),
     }
 }
 

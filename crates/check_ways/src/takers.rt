@@ -191,7 +191,9 @@ fn enter(
             })?;
             go_inward(alloc, structs, depth, bare, object, way)
         }
-        TypeForm::Struct(id) => enter_structure(alloc, structs, depth, bare, object, whole, *id, way),
+        TypeForm::Struct(id) => enter_structure(
+            alloc, structs, depth, bare, object, whole, *id, way,
+        ),
         TypeForm::Void => Ok(false),
         TypeForm::Integer(_) => Ok(false),
         TypeForm::Enum(..) => Ok(false),

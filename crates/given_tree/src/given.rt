@@ -44,7 +44,10 @@ pub enum GivenForm {
         place: Place,
     },
     /// The first fault of a value.
-    Faulty { fault: Fault, first: Place },
+    Faulty {
+        fault: Fault,
+        first: Place,
+    },
 }
 
 /// A given initializer in braces, behind its designators.
