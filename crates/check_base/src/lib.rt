@@ -1,0 +1,11 @@
+//! What all of checking shares: why it refuses, what an expression is before its use asks for a value or a place, and
+//! rules that are broken at a place.
+#![tactic(auto)]
+
+mod errors;
+mod faults;
+mod meanings;
+
+pub use errors::CheckError;
+pub use faults::{constraint, wants};
+pub use meanings::{Meaning, Operand, OperandValue};

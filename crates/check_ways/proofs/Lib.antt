@@ -1,0 +1,5 @@
+pub mod InwardSteps
+pub mod InwardLaws
+pub mod RankLaws
+pub mod PartLaws
+pub mod CountLaws
