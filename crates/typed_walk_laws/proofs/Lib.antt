@@ -1,0 +1,6 @@
+pub mod Walks
+pub mod KeptMeanings
+pub mod Tables
+pub mod Declared
+pub mod SpecifiedTypes
+pub mod TagForms

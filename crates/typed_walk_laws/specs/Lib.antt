@@ -1,0 +1,3 @@
+pub mod SoundScopes
+pub mod Behind
+pub mod CoveredTrees
