@@ -7,14 +7,15 @@ use Rattle.std.proofs.lemmas.List.Folds.{list_all-append}
 use Rattle.cake_base.specs.declared.places.Place.{Place}
 use Rattle.model_types.specs.Types.{CType, Form, form_of_type}
 use Rattle.model_types.specs.Structures.{Structure}
+use Rattle.model_types.specs.Layout.{is_complete}
 use Rattle.model_grammar.specs.declared.syntax.Name.{Name}
-use Rattle.model_core.specs.PossibleTypes.{is_possible, are_structures}
+use Rattle.model_core.specs.PossibleTypes.{is_possible, length_fits, are_structures}
 use Rattle.model_scopes.specs.declared.declarations.Kind.{Kind}
 use Rattle.model_scopes.specs.declared.declarations.Kind.TheVariants.{Object, Function, TypeName, Enumerator, Tag}
 use Rattle.model_scopes.specs.Declarations.{Value, Declaration, is_tag, is_typedef, has_linkage}
 use Rattle.model_scopes.specs.Scopes.{Scopes, Declared, with_id, changed, with_struct, is_outermost}
 use Rattle.model_scopes.specs.Binding.{here, declared_as}
-use Rattle.model_scopes.specs.Declaring.{declare_by, declare_first, declare_again, first_declared, redeclared}
+use Rattle.model_scopes.specs.Declaring.{declare, declare_by, declare_first, declare_again, first_declared, redeclared}
 use Rattle.model_scopes.specs.DeclarationRules.{has_prefix, clashes_with, may_repeat, broken_later, broken_rule}
 use Rattle.model_scopes.specs.NotedUses.{used_at, note_use}
 use Rattle.model_checking.specs.State.{State, in_scopes}
@@ -22,9 +23,8 @@ use Rattle.model_checking.specs.Tags.{tag_declaration, declared_unless, declared
 use Rattle.typed_walk_laws.specs.SoundScopes.{is_of_kind, is_sound_declaration, are_sound}
 use Rattle.typed_walk_laws.specs.Behind.{TypesKept, Behind, GivesSound}
 use Rattle.typed_walk_laws.proofs.Tables.{kept_more, structures_more}
-use Rattle.typed_walk_laws.proofs.Walks.{all_kept}
 
-pub abbrev PossibleType : List Structure → CType → Type 0
+abbrev pub PossibleType : List Structure → CType → Type 0
 PossibleType structs type = is_possible structs type ≡ true
 
 -- ---- lists of what is declared
@@ -101,7 +101,7 @@ declared_sound (Some id) s d h q = entry_of s.structs id s.declared d (scopes_pa
 
 -- ---- one more structure
 
-with_struct_added : Option (List ℕ) → Place → Scopes → Structure
+abbrev with_struct_added : Option (List ℕ) → Place → Scopes → Structure
 with_struct_added tag place s = record { tag = tag; outer = is_outermost s.around; place = place; members = None }
 
 pub with_struct_sound : (tag : Option (List ℕ)) (place : Place) (s : Scopes) → are_sound s ≡ true → are_sound (with_struct tag place s) ≡ true
@@ -163,6 +163,18 @@ tag_by name type braces (Some id) s h k c =
     (changed_sound s.structs (redeclared d s.innermost.number) id s.declared parts.entries (λ old q.
     again_sound s.structs s.innermost.number name type braces old (entry_of s.structs id s.declared old parts.entries q) (ap (clashes_with d) (sym q) ∙ c)))
 
+-- a declaration leaves the structures as they are
+declared_structs : (shared : Option ℕ) (d : Declaration) (s : Scopes) → (declare_by shared d s).structs ≡ s.structs
+declared_structs None d s = refl
+declared_structs (Some id) d s = refl
+
+kept_same : (a b : List Structure) → b ≡ a → TypesKept a b
+kept_same a b e = record {
+  possible = λ t h. ap (λ structs. is_possible structs t) e ∙ h;
+  complete = λ t h. ap (λ structs. is_complete structs t) e ∙ h;
+  length = λ t n h. ap (λ structs. length_fits structs t n) e ∙ h;
+}
+
 -- a declaration that breaks nothing clashes with none
 unclashing : (prefixed clashes : Bool) (later : Option ℕ) → (if prefixed then Some 1 else if clashes then Some 2 else later) ≡ None → clashes ≡ false
 unclashing true clashes later h = cc
@@ -177,8 +189,9 @@ declared_by_rule name type braces s None h k r =
     let d = tag_declaration name type braces in
     let shared = here true name.text s.scopes in
     let free = unclashing (has_prefix name.text) (clashes_with d (declared_as shared s.scopes)) (broken_later d (declared_as shared s.scopes)) r in
-    (record { sound = tag_by name type braces shared s.scopes h k free; kept = all_kept s.scopes.structs },
-    (and_parts (is_possible s.scopes.structs type) (is_of_kind Tag (form_of_type type) None) k).0)
+    let same = declared_structs shared d s.scopes in
+    (record { sound = tag_by name type braces shared s.scopes h k free; kept = kept_same s.scopes.structs (declare d s.scopes).structs same },
+    ap (λ structs. is_possible structs type) same ∙ (and_parts (is_possible s.scopes.structs type) (is_of_kind Tag (form_of_type type) None) k).0)
 
 pub declared_tag_sound : (name : Name) (type : CType) (braces : Bool) (s : State) → are_sound s.scopes ≡ true →
     is_sound_declaration s.scopes.structs (tag_declaration name type braces) ≡ true → GivesSound s PossibleType (declared_tag (tag_declaration name type braces) s)

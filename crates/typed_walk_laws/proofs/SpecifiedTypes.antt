@@ -1,6 +1,7 @@
 -- The types that specifiers give are possible.
 use Rattle.std.proofs.Common.{◌≡◌, ◌∙◌, ap, sym, refl, ℕ, nat_lt, Bool, true, false, ◌&&◌, ◌||◌, not, List, [], ◌∷◌, ◌++◌, Option, Some, None, is_some, option_map, Ok, Err, Result, if◌then◌else◌}
 use Rattle.std.specs.Option.{option_and_then}
+use Rattle.std.specs.List.{list_all}
 use Rattle.std.specs.Result.{IfOk}
 use Rattle.std.proofs.lemmas.Bool.{and_parts, and_from}
 use Rattle.cake_base.specs.declared.places.Place.{Place}
@@ -78,12 +79,11 @@ qualified_possible structs list (typed (Function t ps v) q) = refl
 
 -- ---- keywords
 
-abbrev AllPossible : List Structure → List Named → Type 0
-AllPossible structs [] = true ≡ true
-AllPossible structs (n ∷ ns) = (is_possible_form structs n.form ≡ true) × AllPossible structs ns
+abbrev are_all_possible : List Structure → List Named → Bool
+are_all_possible structs ns = list_all (λ n. is_possible_form structs n.form) ns
 
 -- a type, where there is one, is possible
-pub abbrev PossibleIfAny : List Structure → Option CType → Type 0
+abbrev pub PossibleIfAny : List Structure → Option CType → Type 0
 PossibleIfAny structs None = true ≡ true
 PossibleIfAny structs (Some type) = is_possible structs type ≡ true
 
@@ -92,28 +92,19 @@ found_by : (structs : List Structure) (f : Form) (rest : Option Form) (b : Bool)
 found_by structs f rest true h k = h
 found_by structs f rest false h k = k
 
-found_possible : (structs : List Structure) (words : List TypeWord) (ns : List Named) → AllPossible structs ns → PossibleIfAny structs (option_map plain (find_named words ns))
+found_possible : (structs : List Structure) (words : List TypeWord) (ns : List Named) → are_all_possible structs ns ≡ true →
+    PossibleIfAny structs (option_map plain (find_named words ns))
 found_possible structs words [] h = refl
 found_possible structs words (n ∷ ns) h =
-    found_by structs n.form (find_named words ns) (same_words words n.words) h.0 (found_possible structs words ns h.1)
-
-all_both : (structs : List Structure) (ns ms : List Named) → AllPossible structs ns → AllPossible structs ms → AllPossible structs (ns ++ ms)
-all_both structs [] ms h k = k
-all_both structs (n ∷ ns) ms h k = (h.0, all_both structs ns ms h.1 k)
-
-small_possible : (structs : List Structure) → AllPossible structs small_types
-small_possible structs = (refl, refl, refl, refl, refl, refl, refl, refl, refl, refl, refl, refl, refl, refl, refl, refl, refl)
-
-long_possible : (structs : List Structure) → AllPossible structs long_types
-long_possible structs = (refl, refl, refl, refl, refl, refl, refl, refl, refl, refl, refl, refl, refl)
+    let parts = and_parts (is_possible_form structs n.form) (are_all_possible structs ns) h in
+    found_by structs n.form (find_named words ns) (same_words words n.words) parts.0 (found_possible structs words ns parts.1)
 
 words_possible : (structs : List Structure) (words : List TypeWord) → PossibleIfAny structs (option_map plain (type_by_words words))
-words_possible structs words =
-    found_possible structs words (small_types ++ long_types) (all_both structs small_types long_types (small_possible structs) (long_possible structs))
+words_possible structs words = found_possible structs words (small_types ++ long_types) refl
 
 -- ---- a list of specifiers
 
-pub abbrev SpecifiedPossible : List Structure → Specified → Type 0
+abbrev pub SpecifiedPossible : List Structure → Specified → Type 0
 SpecifiedPossible structs given = PossibleIfAny structs given.type
 
 either_possible : (structs : List Structure) (type : Option CType) (words : List Word) → PossibleIfAny structs type → PossibleIfAny structs (type_or_words type words)

@@ -22,7 +22,7 @@ same_members_at (s ∷ ss) x (suc k) h = same_members_at ss x k h
 same_members : (ss : List Structure) (x : Structure) → x.members ≡ None → members_of (ss ++ x ∷ []) ≡ members_of ss
 same_members ss x h = λ i id. same_members_at ss x id.0 h i
 
-counted : (o : Option (List Member)) (n : ℕ) → ℕ
+abbrev counted : (o : Option (List Member)) (n : ℕ) → ℕ
 counted o n = if is_some o then 1 + n else n
 
 same_count : (ss : List Structure) (x : Structure) → x.members ≡ None → complete_count (ss ++ x ∷ []) ≡ complete_count ss
@@ -49,7 +49,7 @@ mutual
   complete_form_more ss x (Struct id) h = ap is_some (same_members_at ss x id.0 h)
   complete_form_more ss x (Function t ps v) h = refl
 
-sized_by : (StructId → Option Layout) → CType → Bool
+abbrev sized_by : (StructId → Option Layout) → CType → Bool
 sized_by layouts t = is_some (option_and_then (λ l. within_limit l.size) (type_layout layouts t))
 
 sized_more : (ss : List Structure) (x : Structure) (t : CType) → x.members ≡ None → is_sized (ss ++ x ∷ []) t ≡ is_sized ss t

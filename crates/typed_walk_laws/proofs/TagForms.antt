@@ -29,8 +29,8 @@ use Rattle.model_checking.specs.FaultsBeside.{with_fault}
 use Rattle.model_checking.specs.Parts.{Specified}
 use Rattle.model_checking.specs.Tags.{visible_tag, tag_here, tag_found, tag_declaration, declared_tag}
 use Rattle.model_checking.specs.Structures.{struct_type, next_id, with_next, new_struct, as_struct, struct_by, struct_tag}
+use Rattle.model_checking.specs.DeclaratorNames.{rule_at}
 use Rattle.model_checking.specs.Enumerations.{fixed_by, fixed_type, enum_type, as_enum, enum_by, is_own, enum_found, fixed_tag_rule, enum_tag, Enumeration, begun_as, begun_by, begun, braces_rule, enum_begun, enumerator_type, enumerator_declaration, enumerator_rule, value_behind, range_fault, with_enumerator, enumerator}
-use Rattle.model_checking.specs.DeclaredNameRules.{rule_at}
 use Rattle.typed_walk_laws.specs.SoundScopes.{is_of_kind, is_sound_declaration, are_sound}
 use Rattle.typed_walk_laws.specs.Behind.{TypesKept, Behind, GivesSound}
 use Rattle.typed_walk_laws.proofs.Tables.{kept_more}

@@ -16,7 +16,7 @@ use Rattle.typed_walk_laws.specs.SoundScopes.{are_sound}
 use Rattle.typed_walk_laws.specs.Behind.{TypesKept, Behind, SoundBoth, GivesSound}
 
 -- what is asked of a part's answer, by the structures behind it
-pub abbrev Wanted : Type 0 → Type 1
+abbrev pub Wanted : Type 0 → Type 1
 Wanted A = List Structure → A → Type 0
 
 pub all_kept : (structs : List Structure) → TypesKept structs structs
@@ -63,13 +63,13 @@ given P s x h p = (behind_here s h, p)
 
 -- ---- what expressions mean, and their operands
 
-pub abbrev TypedMeaning : List Structure → Meaning → Type 0
+abbrev pub TypedMeaning : List Structure → Meaning → Type 0
 TypedMeaning structs m = is_typed_meaning structs m ≡ true
 
-pub abbrev TypedOperand : List Structure → Operand → Type 0
+abbrev pub TypedOperand : List Structure → Operand → Type 0
 TypedOperand structs o = is_typed_operand structs o.value ≡ true
 
-pub abbrev Anything : {A : Type 0} → List Structure → A → Type 0
+abbrev pub Anything : {A : Type 0} → List Structure → A → Type 0
 Anything structs x = true ≡ true
 
 pub operand_given : (e : syntax.Expr) (before : State) (r : Answer Meaning) → GivesSound before TypedMeaning r → GivesSound before TypedOperand (as_operand e r)

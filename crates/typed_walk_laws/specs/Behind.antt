@@ -1,6 +1,6 @@
 -- What holds behind a part of a unit (ISO/IEC 9899:2024, 6.2.5): what is declared is sound, and the types that there were are
 -- there still.
-use Rattle.std.specs.Prelude.{◌≡◌, ℕ, true, ◌×◌, List, Option}
+use Rattle.std.specs.Prelude.{◌≡◌, ℕ, true, List, Option}
 use Rattle.std.specs.Result.{IfOk}
 use Rattle.model_types.specs.Types.{CType}
 use Rattle.model_types.specs.Structures.{Structure}

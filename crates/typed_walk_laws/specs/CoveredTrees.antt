@@ -54,7 +54,7 @@ abbrev mutual
   is_covered_spec (syntax.TypeSpec word place) = true
   is_covered_spec (syntax.QualifierSpec qualifier) = true
   is_covered_spec (syntax.StructTag tag place) = true
-  is_covered_spec (syntax.Struct tag members place) = false
+  is_covered_spec (syntax.Struct tag _ place) = false
   is_covered_spec (syntax.EnumTag tag fixed place) = is_covered_fixed fixed
   is_covered_spec (syntax.Enum tag fixed enumerators place) = is_covered_fixed fixed && are_covered_enumerators enumerators
   is_covered_spec (syntax.TypedefName name) = true
@@ -80,4 +80,4 @@ abbrev mutual
 
   pub is_covered_suffix : syntax.Suffix → Bool
   is_covered_suffix (syntax.ArraySuffix length place) = is_covered_if_any length
-  is_covered_suffix (syntax.FunctionSuffix parameters is_variadic place) = false
+  is_covered_suffix (syntax.FunctionSuffix _ is_variadic place) = false
