@@ -4,3 +4,5 @@ pub mod Tables
 pub mod Declared
 pub mod SpecifiedTypes
 pub mod TagForms
+pub mod Names
+pub mod Declarators

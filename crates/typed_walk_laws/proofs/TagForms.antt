@@ -40,6 +40,9 @@ use Rattle.typed_walk_laws.proofs.SpecifiedTypes.{PossibleIfAny, SpecifiedPossib
 
 -- ---- a new structure
 
+abbrev PossibleStruct : List Structure → StructId → Type 0
+PossibleStruct structs id = is_possible structs (struct_type id) ≡ true
+
 next_possible : (s : State) (tag : Option Name) (place : Place) → is_possible (with_next tag place s).scopes.structs (struct_type (next_id s)) ≡ true
 next_possible s tag place =
     let ss = s.scopes.structs in
@@ -54,15 +57,15 @@ behind_next s tag place h = record {
 }
 
 new_struct_sound : (name : Name) (braces : Bool) (place : Place) (s : State) → are_sound s.scopes ≡ true →
-    GivesSound s (λ structs id. is_possible structs (struct_type id) ≡ true) (new_struct name braces place s)
+    GivesSound s PossibleStruct (new_struct name braces place s)
 new_struct_sound name braces place s h =
     let next = with_next (Some name) place s in
     let behind = behind_next s (Some name) place h in
     let possible = next_possible s (Some name) place in
     let declared = declared_tag_sound name (struct_type (next_id s)) braces next behind.sound (and_from (is_possible next.scopes.structs (struct_type (next_id s))) true possible refl) in
-    from_before _ s next _ behind
-    (after PossibleType (λ structs id. is_possible structs (struct_type id) ≡ true) next (declared_tag (tag_declaration name (struct_type (next_id s)) braces) next) _ declared
-    (λ type t kept p. given _ t (next_id s) kept.sound (kept.kept.possible (struct_type (next_id s)) possible)))
+    from_before PossibleStruct s next _ behind
+    (after PossibleType PossibleStruct next (declared_tag (tag_declaration name (struct_type (next_id s)) braces) next) _ declared
+    (λ type t kept p. given PossibleStruct t (next_id s) kept.sound (kept.kept.possible (struct_type (next_id s)) possible)))
 
 -- ---- `struct` and a tag
 
@@ -79,7 +82,7 @@ struct_found : (o : Option Declared) (name : Name) (place : Place) (s : State) �
     ((d : Declared) → o ≡ Some d → is_possible s.scopes.structs d.latest.ty ≡ true) → GivesSound s PossibleType (struct_by o name place s)
 struct_found (Some d) name place s h p = as_struct_by name d.latest.ty s (is_struct_form (form_of_type d.latest.ty)) h (p d refl)
 struct_found None name place s h p =
-    after (λ structs id. is_possible structs (struct_type id) ≡ true) PossibleType s (new_struct name false place s) _ (new_struct_sound name false place s h)
+    after PossibleStruct PossibleType s (new_struct name false place s) _ (new_struct_sound name false place s h)
     (λ id t behind possible. given PossibleType t (struct_type id) behind.sound possible)
 
 pub tag_type : (lone : Bool) (name : Name) (s : State) (d : Declared) → are_sound s.scopes ≡ true → tag_found lone name s ≡ Some d → is_possible s.scopes.structs d.latest.ty ≡ true

@@ -4,6 +4,8 @@ use Rattle.typed_walk_laws.proofs.Tables.{kept_more}
 use Rattle.typed_walk_laws.proofs.Declared.{declared_tag_sound}
 use Rattle.typed_walk_laws.proofs.SpecifiedTypes.{specifiers_sound}
 use Rattle.typed_walk_laws.proofs.TagForms.{enum_tag_sound}
+use Rattle.typed_walk_laws.proofs.Names.{named_sound}
+use Rattle.typed_walk_laws.proofs.Declarators.{note_declared_sound}
 use Rattle.typed_walk_laws.proofs.expressions.trial.Goals as goal
 
 pub returns : goal.returns
