@@ -6,3 +6,4 @@ pub mod SpecifiedTypes
 pub mod TagForms
 pub mod Names
 pub mod Declarators
+pub mod Operations

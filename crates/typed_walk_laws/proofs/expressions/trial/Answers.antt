@@ -5,6 +5,7 @@ use Rattle.typed_walk_laws.proofs.Declared.{declared_tag_sound}
 use Rattle.typed_walk_laws.proofs.SpecifiedTypes.{specifiers_sound}
 use Rattle.typed_walk_laws.proofs.TagForms.{enum_tag_sound}
 use Rattle.typed_walk_laws.proofs.Names.{named_sound}
+use Rattle.typed_walk_laws.proofs.Operations.{call_fault_kept}
 use Rattle.typed_walk_laws.proofs.Declarators.{note_declared_sound}
 use Rattle.typed_walk_laws.proofs.expressions.trial.Goals as goal
 
