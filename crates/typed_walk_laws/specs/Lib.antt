@@ -1,3 +1,2 @@
 pub mod SoundScopes
 pub mod Behind
-pub mod CoveredTrees

@@ -1,4 +1,6 @@
-//! Laws of checking: what elaboration makes of whole expressions is typed (ISO/IEC 9899:2024, 6.5, 6.7.8).
+//! Laws of checking: what names, members, tags and typedef names give is typed, and what is declared behind them is sound
+//! (ISO/IEC 9899:2024, 6.2.1, 6.5.2, 6.5.3.4, 6.7.3.2, 6.7.9).
 #![tactic(auto)]
 
-pub mod expressions;
+pub mod names;
+pub mod types;
