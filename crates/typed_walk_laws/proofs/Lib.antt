@@ -4,6 +4,6 @@ pub mod Tables
 pub mod Declared
 pub mod SpecifiedTypes
 pub mod TagForms
-pub mod Names
+pub mod NameForms
 pub mod Declarators
 pub mod Operations

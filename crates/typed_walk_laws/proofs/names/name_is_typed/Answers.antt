@@ -1,4 +1,4 @@
-use Rattle.typed_walk_laws.proofs.Names.{named_sound}
+use Rattle.typed_walk_laws.proofs.NameForms.{named_sound}
 use Rattle.typed_walk_laws.proofs.names.name_is_typed.Goals as goal
 
 pub returns : goal.returns
