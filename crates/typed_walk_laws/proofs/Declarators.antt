@@ -158,12 +158,14 @@ declared_possible a b (Some t) d k e h = ap (λ o. is_possible b (or_int o)) e �
 
 pub declarator_sound : (given : Specified) (first : Place) (d : syntax.Declarator) (s : State) (x : Both Steps) → SpecifiedPossible s.scopes.structs given → SoundBoth s PlainSteps x →
     SoundBoth s PossibleDeclared (declarator given first d s x)
-declarator_sound given first d s x p h =
-    (h.0, λ n.
-    let outer = former_none (first_of_faults x.made.fault (inner_void_faults x.made.steps)) (derived s.scopes.structs first given.type x.made.steps).fault n in
-    let plain = h.1 (former_none x.made.fault (inner_void_faults x.made.steps) outer) in
-    declared_possible s.scopes.structs x.state.scopes.structs (derived s.scopes.structs first given.type x.made.steps).type (declarator given first d s x).made h.0.kept refl
-    (derived_possible s.scopes.structs first given.type x.made.steps plain p))
+declarator_sound given first d s x p h = (
+  h.0,
+  λ n.
+      let outer = former_none (first_of_faults x.made.fault (inner_void_faults x.made.steps)) (derived s.scopes.structs first given.type x.made.steps).fault n in
+      let plain = h.1 (former_none x.made.fault (inner_void_faults x.made.steps) outer) in
+      declared_possible s.scopes.structs x.state.scopes.structs (derived s.scopes.structs first given.type x.made.steps).type (declarator given first d s x).made h.0.kept refl
+      (derived_possible s.scopes.structs first given.type x.made.steps plain p),
+)
 
 pub note_declared_sound : (u : Use) (s : State) (x : Both Declared) → SoundBoth s PossibleDeclared x → GivesSound s PossibleDeclared (note_declared u x)
 note_declared_sound Evaluated s x h = (record { sound = h.0.sound; kept = h.0.kept }, h.1)

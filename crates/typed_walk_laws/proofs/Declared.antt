@@ -189,9 +189,10 @@ declared_by_rule name type braces s None h k r =
     let d = tag_declaration name type braces in
     let shared = here true name.text s.scopes in
     let free = unclashing (has_prefix name.text) (clashes_with d (declared_as shared s.scopes)) (broken_later d (declared_as shared s.scopes)) r in
-    let same = declared_structs shared d s.scopes in
-    (record { sound = tag_by name type braces shared s.scopes h k free; kept = kept_same s.scopes.structs (declare d s.scopes).structs same },
-    ap (λ structs. is_possible structs type) same ∙ (and_parts (is_possible s.scopes.structs type) (is_of_kind Tag (form_of_type type) None) k).0)
+    let same = declared_structs shared d s.scopes in (
+      record { sound = tag_by name type braces shared s.scopes h k free; kept = kept_same s.scopes.structs (declare d s.scopes).structs same },
+      ap (λ structs. is_possible structs type) same ∙ (and_parts (is_possible s.scopes.structs type) (is_of_kind Tag (form_of_type type) None) k).0,
+    )
 
 pub declared_tag_sound : (name : Name) (type : CType) (braces : Bool) (s : State) → are_sound s.scopes ≡ true →
     is_sound_declaration s.scopes.structs (tag_declaration name type braces) ≡ true → GivesSound s PossibleType (declared_tag (tag_declaration name type braces) s)
