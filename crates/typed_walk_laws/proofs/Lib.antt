@@ -1,0 +1,9 @@
+pub mod Walks
+pub mod KeptMeanings
+pub mod Tables
+pub mod Declared
+pub mod SpecifiedTypes
+pub mod TagForms
+pub mod NameForms
+pub mod Declarators
+pub mod Operations
