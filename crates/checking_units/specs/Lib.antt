@@ -61,6 +61,7 @@ pub mod RowsC47
 pub mod RowsC48
 pub mod RowsCallsAndMembers
 pub mod RowsCastsByForm
+pub mod RowsCastsToFaultyTypes
 pub mod RowsConstantAndStaticValues
 pub mod RowsConversionsByAssignment
 pub mod RowsEnumeratorsInValues

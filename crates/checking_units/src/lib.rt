@@ -64,6 +64,7 @@ pub mod rows_c47;
 pub mod rows_c48;
 pub mod rows_calls_and_members;
 pub mod rows_casts_by_form;
+pub mod rows_casts_to_faulty_types;
 pub mod rows_constant_and_static_values;
 pub mod rows_conversions_by_assignment;
 pub mod rows_enumerators_in_values;
