@@ -34,7 +34,7 @@ use Rattle.model_checking.specs.Enumerations.{fixed_type, enum_tag, enum_begun, 
 use Rattle.model_checking.specs.Derivations.{Steps, no_steps, and_steps, behind_pointers, array_step, outline_of_suffixes, count_of_parameters}
 use Rattle.model_checking.specs.DeclaratorTypes.{declarator, own_parameters_fault}
 use Rattle.model_checking.specs.ParameterDeclarations.{begin_parameters, parameter, Parameters, no_parameters_behind, and_parameters, function_step}
-use Rattle.model_checking.specs.Reading.{Ends, waits, as_operand, as_constant, asserted_of, count_of, type_name_place, first_or, named_first, declared_type, note_declared, or_type, given_type, an_array_of, is_alone, function_literal, braces_place}
+use Rattle.model_checking.specs.Reading.{Ends, waits, as_operand, as_constant, asserted_of, count_of, type_name_place, first_or, named_first, declared_type, note_declared, or_type, given_type, target_fault, an_array_of, is_alone, function_literal, braces_place}
 use Rattle.model_checking.specs.ReadInitializers.{single_given, element_step, steps_behind, item_given}
 
 abbrev mutual
@@ -82,9 +82,9 @@ abbrev mutual
       with_fault d.fault (with_state (alignment_of_name s.scopes.structs (mark_of (syntax.Alignof name place)) d.first (declared_type d)) s))
   expr u s (syntax.Cast name e place) =
       then_do (type_name u s name) (λ d s.
-      unless d.fault
-      (then_do (as_operand e (expr u s e)) (λ a s.
-      with_state (cast s.scopes.structs (mark_of (syntax.Cast name e place)) (declared_type d) a) s)))
+      unless (target_fault place d)
+      (with_fault d.fault (then_do (as_operand e (expr u s e)) (λ a s.
+      with_state (cast s.scopes.structs (mark_of (syntax.Cast name e place)) (declared_type d) a) s))))
   expr u s (syntax.Binary op left right place) =
       then_do (as_operand left (expr u s left)) (λ a s.
       beside (left_fault s.scopes.structs a) (as_operand right (expr u s right)) (λ b s.

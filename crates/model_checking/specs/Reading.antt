@@ -1,23 +1,24 @@
 -- What the walk over a tree makes of its smallest parts: operands, constants, first tokens, types, lengths, and the
 -- function literals that wait.
-use Rattle.std.specs.Prelude.{ℕ, ◌+◌, ℤ, Bool, false, not, List, [], ◌∷◌, ◌++◌, Option, Some, None, Result, Ok, Err}
+use Rattle.std.specs.Prelude.{ℕ, ◌+◌, ℤ, Bool, false, ◌||◌, not, List, [], ◌∷◌, ◌++◌, Option, Some, None, Result, Ok, Err}
 use Rattle.std.specs.Option.{unwrap_or}
 use Rattle.cake_base.specs.declared.places.Place.{Place}
 use Rattle.cake_base.specs.declared.rules.Fault.{Fault}
 use Rattle.model_types.specs.Structures.{Structure}
-use Rattle.model_types.specs.Types.{CType}
+use Rattle.model_types.specs.Types.{CType, Form, form_of_type}
 use Rattle.model_scopes.specs.Declarations.{Value}
 use Rattle.model_scopes.specs.Scopes.{drawn}
 use Rattle.model_grammar.specs.SyntaxForms as syntax
 use Rattle.c_tree.specs.SyntaxPlaces.{expr_first, specs_first, type_name_first, declarator_first}
 use Rattle.model_core.specs.CoreTypes.{int_type}
+use Rattle.model_core.specs.TypedParts.{is_array, is_function, is_struct}
 use Rattle.model_checking.specs.State.{Use, State, Waiting, Both, Answer, Reached, gives, then_do, unless, with_state, in_scopes, note_type}
 use Rattle.model_checking.specs.Meanings.{Meaning, a_function, Operand}
 use Rattle.model_checking.specs.Parts.{Declared}
 use Rattle.model_checking.specs.Marks.{mark_of}
 use Rattle.model_checking.specs.MadeCore.{operand, used_fault}
 use Rattle.model_checking.specs.ConstantValues.{constant_of}
-use Rattle.model_checking.specs.FaultsBeside.{first_of_faults}
+use Rattle.model_checking.specs.FaultsBeside.{first_of_faults, fault_if}
 use Rattle.model_checking.specs.Assertions.{assertion_fault}
 use Rattle.model_checking.specs.Derivations.{Derivation, an_array, array_length}
 use Rattle.model_checking.specs.Declaring.{definition_fault}
@@ -84,6 +85,19 @@ or_type None other = other
 
 abbrev pub given_type : Answer CType → Answer (Option CType)
 given_type answer = then_do answer (λ type s. gives (Some type) s)
+
+-- ---- the type of a cast: nothing is cast to an array, a function or a structure (C18), whatever the operand is and also
+-- where a length or a parameter is faulty; where the type isn't known, its own fault is all that is told
+
+abbrev is_never_cast : Form → Bool
+is_never_cast form = is_array form || is_function form || is_struct form
+
+abbrev target_fault_of : Option CType → (own : Option Fault) → Place → Option Fault
+target_fault_of None own place = own
+target_fault_of (Some type) own place = fault_if (is_never_cast (form_of_type type)) place 18
+
+abbrev pub target_fault : Place → Declared → Option Fault
+target_fault place d = target_fault_of d.type d.fault place
 
 -- ---- what declarators derive
 
