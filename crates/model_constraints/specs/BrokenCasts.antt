@@ -7,7 +7,7 @@ use Rattle.model_types.specs.Structures.{Structure}
 use Rattle.model_types.specs.Layout.{is_complete}
 use Rattle.model_core.specs.CoreTypes.{is_void}
 use Rattle.model_core.specs.SameTypes.{is_integer, is_null_constant}
-use Rattle.model_core.specs.TypedParts.{is_scalar, is_object_pointer, is_function_pointer}
+use Rattle.model_core.specs.TypedParts.{is_array, is_function, is_struct, is_scalar, is_object_pointer, is_function_pointer}
 use Rattle.model_core.specs.TypedExpr.{form_of}
 use Rattle.model_core.specs.Core as unit
 use Rattle.model_checking.specs.Meanings.{Operand}
@@ -26,6 +26,10 @@ may_be_cast (Pointer type) e =
     is_null_constant e || is_object_pointer (form_of e) && is_object_pointer (Pointer type)
     || is_function_pointer (form_of e) && is_function_pointer (Pointer type)
 may_be_cast form e = false
+
+-- C18 at the `(`, whatever the operand is
+abbrev pub broken_target : (at : Place) → (to : CType) → Pairs
+broken_target at to = At at 18 (is_array (form_of_type to) || is_function (form_of_type to) || is_struct (form_of_type to))
 
 -- C18 at the `(`; the operand may be void
 abbrev pub broken_cast : List Structure → (at : Place) → (to : CType) → Operand → Pairs

@@ -37,7 +37,7 @@ use Rattle.model_constraints.specs.BrokenCalls.{broken_called, broken_argument}
 use Rattle.model_constraints.specs.BrokenMembers.{broken_member, broken_arrow}
 use Rattle.model_constraints.specs.BrokenAssignments.{broken_left_side, broken_assigned, broken_assigned_by}
 use Rattle.model_constraints.specs.BrokenChoices.{broken_chosen_by, broken_branches}
-use Rattle.model_constraints.specs.BrokenCasts.{broken_cast, broken_measure, broken_literal_type, broken_definition_form}
+use Rattle.model_constraints.specs.BrokenCasts.{broken_target, broken_cast, broken_measure, broken_literal_type, broken_definition_form}
 use Rattle.model_constraints.specs.BrokenSpecifiers.{broken_specifiers, broken_typedef_name}
 use Rattle.model_constraints.specs.BrokenDeclarators.{broken_declarator, broken_void, broken_length}
 use Rattle.model_constraints.specs.BrokenTags.{broken_struct_tag, broken_enum_tag, broken_fixed_tag, broken_braces_tag, broken_memberless, broken_member_name, broken_member_type, broken_structure_size, broken_fixed_type, broken_enumerator_name, broken_enumerator_value}
@@ -101,8 +101,9 @@ abbrev mutual
       Needs (type_name Unevaluated s name) (broken_type_name Unevaluated s name) (λ d s. broken_measure s.scopes.structs d.first (declared_type d))
   broken_expr u s (syntax.Cast name e place) =
       Needs (type_name u s name) (broken_type_name u s name) (λ d s.
-      Needs (as_operand e (expr u s e)) (broken_expr u s e) (λ o s.
-      Unless d.fault (broken_cast s.scopes.structs place (declared_type d) o)))
+      Beside (IfAny d.type (λ type. broken_target place type))
+      (Needs (as_operand e (expr u s e)) (broken_expr u s e) (λ o s.
+      IfAny d.type (λ type. broken_cast s.scopes.structs place type o))))
   broken_expr u s (syntax.Binary op left right place) =
       Needs (as_operand left (expr u s left)) (broken_expr u s left) (λ a s.
       Beside (broken_use s.scopes.structs a)
