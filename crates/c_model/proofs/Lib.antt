@@ -5,5 +5,6 @@ pub mod FirstUnitTyped
 pub mod Refused
 pub mod Carried
 pub mod GivenAlike
+pub mod OtherStructures
 pub mod SumFlattened
 pub mod Covered

@@ -16,6 +16,7 @@ pub mod ExampleTexts
 pub mod ExampleMemory
 pub mod ExampleAgreed
 pub mod ExampleGiven
+pub mod ExampleExported
 pub mod ExampleImplied
 pub mod ExampleOrder
 pub mod ExampleFlattened

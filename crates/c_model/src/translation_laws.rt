@@ -15,6 +15,7 @@ ghost use Rattle.c_model.specs.TwoUnits.{SameRuns, SameExternals};
 ghost use Rattle.c_model.specs.Renamed.{provisional};
 ghost use Rattle.c_model.specs.Flattened.{Flattens};
 ghost use Rattle.c_model.specs.ExampleFlattened.{sum, sum89};
+ghost use Rattle.c_model.specs.ExampleExported.{exports_structure, exports_structures, structure_written, one_structure_written, long89};
 ghost use Rattle.c_model.specs.ExampleGiven.{bumps, bumps_written, bumped, bumped89, exports_array, array_written, only_zeros};
 
 /// What is the same from given blocks is the same.
@@ -40,6 +41,20 @@ pub fn given_int_is_changed_alike()
 pub fn exported_array_keeps_its_values()
     ensures typed { is_typed_core exports_array ≡ true }
     ensures zeros { Exports exports_array (array_written only_zeros) → ⊥ }
+{}
+
+/// A text doesn't give two exported structures one tag.
+pub fn exported_structures_keep_their_tags()
+    ensures typed { is_typed_core exports_structures ≡ true }
+    ensures typed_text { is_typed one_structure_written ≡ true }
+    ensures one_tag { Exports exports_structures one_structure_written → ⊥ }
+{}
+
+/// A text doesn't write an exported structure with a member of another type.
+pub fn exported_structures_keep_their_members()
+    ensures typed { is_typed_core exports_structure ≡ true }
+    ensures typed_text { is_typed (structure_written long89) ≡ true }
+    ensures long { Exports exports_structure (structure_written long89) → ⊥ }
 {}
 
 /// A sum of constants is flattened to the sum that C89 writes, behind no steps.
