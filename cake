@@ -8,8 +8,8 @@ log=$home/out/building.log
 # the folders of the sources that the program was built of; it is as old as the start of that build
 sources=$home/out/sources
 
-# How long the proofs take from nothing, by the sum of what the crates take (docs/GATE.md), and the memory of one crate's check in kB, at most.
-measured="about half an hour on four processors"
+# How long the proofs take from nothing: by the sum of what the crates take (docs/GATE.md), and as seen beside other proofs; and the memory of one crate's check in kB, at most.
+measured="half an hour to an hour on four processors"
 memory=3000000
 
 # The crates that the program stands on, and itself, by crates.txt.
