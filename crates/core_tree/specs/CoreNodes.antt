@@ -1,13 +1,10 @@
 -- The parts of a core that stand in its lists (ISO/IEC 9899:2024, 6.7.11, 6.8.2, 6.8.5), and when one of them is typed
 -- by itself, whatever stands around it.
-use Rattle.std.specs.Prelude.{ℕ, ℤ, Bool, true, ◌&&◌, List, [], ◌∷◌, Option, Some, None}
+use Rattle.std.specs.Prelude.{ℕ, ℤ, Bool, List, [], ◌∷◌, Option, Some, None}
 use Rattle.cake_base.specs.declared.places.Place.{Place}
-use Rattle.model_types.specs.Types.{CType, form_of_type}
-use Rattle.model_core.specs.CoreTypes.{type_of}
-use Rattle.model_core.specs.SameTypes.{same_value_type}
-use Rattle.model_core.specs.TypedParts.{is_storable}
-use Rattle.model_core.specs.TypedExpr.{is_typed}
-use Rattle.model_core.specs.TypedStat.{is_typed_stat}
+use Rattle.model_types.specs.Types.{CType}
+use Rattle.model_core.specs.TypedExpr.{are_typed_values}
+use Rattle.model_core.specs.TypedStat.{are_typed_cases}
 use Rattle.model_core.specs.Core as unit
 
 -- an initial value: the ranks that lead to what it is for, its offset in bytes, its type, and the value
@@ -43,11 +40,9 @@ abbrev pub maybe_stat : Option unit.Stat → unit.MaybeStat
 maybe_stat None = unit.no_stat
 maybe_stat (Some stat) = unit.a_stat stat
 
--- an initial value has the type of the scalar or structure that it is for
+-- typed as the one item of a list
 abbrev pub is_typed_initial : Initial → Bool
-is_typed_initial i = is_typed i.value && is_storable (form_of_type i.type) && same_value_type i.type (type_of i.value)
+is_typed_initial i = are_typed_values (initials (i ∷ []))
 
 abbrev pub is_typed_case : Case → Bool
-is_typed_case (CaseLabel value place) = true
-is_typed_case (DefaultLabel place) = true
-is_typed_case (Statement stat) = is_typed_stat stat
+is_typed_case c = are_typed_cases (cases (c ∷ []))
