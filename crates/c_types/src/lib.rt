@@ -20,6 +20,6 @@ pub use layout::{align_of, is_complete, member_offset, size_of};
 pub use members::{Member, Members};
 pub use model_types::numbers::{Basic, BinOp, Const};
 pub use model_types::types::{Quals, StructId};
-pub use operations::{OpFault, const_op, convert, is_comparison, operand_type};
+pub use operations::{OpFault, const_op, convert, is_comparison, operand_type, operate};
 pub use structs::Structs;
 pub use types::{CType, TypeForm, TypeList};

@@ -1,5 +1,5 @@
 //! Conversions of integers and operations on constants (ISO/IEC 9899:2024, 6.3.2, 6.5.6 to 6.5.13).
-ghost use Rattle.std.specs.Prelude.{◌≡◌, ◌≢◌, ◌^◌, ◌≤◌, ◌<◌, ◌*◌, ◌≤ℤ◌, ◌<ℤ◌, ◌+ℤ◌, ◌-ℤ◌, ◌*ℤ◌, pos, true, false, bit_and, bit_or, bit_xor, unsigned_abs, int_div, int_rem, IsTrue, not, IfOk, IfErr, if◌then◌else◌};
+ghost use Rattle.std.specs.Prelude.{◌≡◌, ◌≢◌, ◌^◌, ◌≤◌, ◌<◌, ◌*◌, ◌≤ℤ◌, ◌<ℤ◌, ◌+ℤ◌, ◌-ℤ◌, ◌*ℤ◌, pos, true, false, ◌||◌, bit_and, bit_or, bit_xor, unsigned_abs, int_div, int_rem, IsTrue, not, IfOk, IfErr, if◌then◌else◌};
 ghost use Rattle.std.specs.Int.{int_div_euclid};
 ghost use Rattle.std.specs.Ordering.{int_eq};
 ghost use Rattle.model_types.specs.Operations as m;
@@ -309,30 +309,53 @@ fn are_equal(left: i128, right: i128) -> bool
     left == right
 }
 
+/// An operation on two values of a type; of a shift the type is the left one's, and the right one is a value alone
+/// (6.5.6 to 6.5.13). Comparisons give an int.
+pub fn operate(op: BinOp, basic: Basic, left: i128, right: i128) -> Result<i128, OpFault>
+    requires left { IsTrue (m.fits basic left) }
+    requires right { IsTrue (c.is_shift op || m.fits basic right) }
+    ensures value { caused result ≡ m.operate op basic left right }
+    ensures fits { IfOk result (λ v. IsTrue (m.fits (if c.is_comparison op then Int else basic) v)) }
+{
+    match op {
+        BinOp::Mul => product(basic, left, right),
+        BinOp::Div => quotient(basic, left, right),
+        BinOp::Rem => remainder(basic, left, right),
+        BinOp::Add => sum(basic, left, right),
+        BinOp::Sub => difference(basic, left, right),
+        BinOp::ShiftLeft => shift_left(basic, left, right),
+        BinOp::ShiftRight => shift_right(basic, left, right),
+        BinOp::Less => Ok(truth(left < right)),
+        BinOp::Greater => Ok(truth(left > right)),
+        BinOp::LessEqual => Ok(truth(left <= right)),
+        BinOp::GreaterEqual => Ok(truth(left >= right)),
+        BinOp::Equal => Ok(truth(are_equal(left, right))),
+        BinOp::NotEqual => Ok(truth(!are_equal(left, right))),
+        BinOp::BitAnd => Ok(both_bits(basic, left, right)),
+        BinOp::BitXor => Ok(different_bits(basic, left, right)),
+        BinOp::BitOr => Ok(any_bits(basic, left, right)),
+    }
+}
+
+/// The right operand in the type of an operation; a shift's is left as it is.
+fn right_operand(op: BinOp, basic: Basic, right: i128) -> i128
+    ensures value { result ≡ (if c.is_shift op then right else m.convert basic right) }
+    ensures fits { IsTrue (c.is_shift op || m.fits basic result) }
+{
+    if is_shift(op) {
+        right
+    } else {
+        convert(right, basic)
+    }
+}
+
 /// An operation in a type to which the operands are converted, but for a shift's right one.
 fn calculate(op: BinOp, basic: Basic, left: i128, right: i128) -> Result<i128, OpFault>
     ensures value { caused result ≡ c.converted_operation op basic left right }
     ensures fits { IfOk result (λ v. IsTrue (m.fits (if c.is_comparison op then Int else basic) v)) }
 {
-    let left = convert(left, basic);
-    match op {
-        BinOp::Mul => product(basic, left, convert(right, basic)),
-        BinOp::Div => quotient(basic, left, convert(right, basic)),
-        BinOp::Rem => remainder(basic, left, convert(right, basic)),
-        BinOp::Add => sum(basic, left, convert(right, basic)),
-        BinOp::Sub => difference(basic, left, convert(right, basic)),
-        BinOp::ShiftLeft => shift_left(basic, left, right),
-        BinOp::ShiftRight => shift_right(basic, left, right),
-        BinOp::Less => Ok(truth(left < convert(right, basic))),
-        BinOp::Greater => Ok(truth(left > convert(right, basic))),
-        BinOp::LessEqual => Ok(truth(left <= convert(right, basic))),
-        BinOp::GreaterEqual => Ok(truth(left >= convert(right, basic))),
-        BinOp::Equal => Ok(truth(are_equal(left, convert(right, basic)))),
-        BinOp::NotEqual => Ok(truth(!are_equal(left, convert(right, basic)))),
-        BinOp::BitAnd => Ok(both_bits(basic, left, convert(right, basic))),
-        BinOp::BitXor => Ok(different_bits(basic, left, convert(right, basic))),
-        BinOp::BitOr => Ok(any_bits(basic, left, convert(right, basic))),
-    }
+    let right = right_operand(op, basic, right);
+    operate(op, basic, convert(left, basic), right)
 }
 
 fn is_shift(op: BinOp) -> bool

@@ -1,4 +1,4 @@
-use Rattle.c_types.proofs.operations.calculate.Goals as goal
+use Rattle.c_types.proofs.operations.operate.Goals as goal
 
 pub returns-in-Mul-clause-fits : goal.returns-in-Mul-clause-fits
 returns-in-Mul-clause-fits c = rw c.in-Mul.is c.product.ensures.fits
