@@ -15,7 +15,7 @@ storage_of o.Static = m.Static
 storage_of o.Extern = m.Extern
 
 -- the structure of a form
-abbrev pub structure_of : OutStructureForm → m.Structure
+abbrev pub structure_of : OutStructureForm → m.Structure89
 structure_of (s.Tag name) = m.Tag name
 structure_of (s.Members name first others) = m.Members name first others
 

@@ -28,7 +28,7 @@ stats_tree ss = ss
 abbrev pub item_tree : Item → Item
 item_tree i = i
 
-abbrev pub structure_tree : m.Structure → m.Structure
+abbrev pub structure_tree : m.Structure89 → m.Structure89
 structure_tree s = s
 
 abbrev pub outer_tree : m.Outer → m.Outer

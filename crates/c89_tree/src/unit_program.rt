@@ -114,7 +114,7 @@ impl Model for OutStructure {
     ghost use Rattle.model_core.specs.Program89 as m;
     ghost use Rattle.c89_tree.specs.apparatus.UnitProgramCode.{coded_structure};
 
-    ghost Value = { m.Structure };
+    ghost Value = { m.Structure89 };
 
     ghost coded = { coded_structure };
 

@@ -15,7 +15,7 @@ use Rattle.c_model.specs.WrittenType.{StructNames, written_type}
 use Rattle.c_model.specs.Seen.{Seen, SameBytes}
 use Rattle.c_model.specs.ExportedTypes.{Reaches, HasMembers}
 use Rattle.c_model.specs.Translation.{Defines23, Defines89, Holds23, Holds89, Agree, IsExported, Exports, IsUndefined, IsInteger, IsResult, AreIntegers, IsEntryForm, Same}
-use Rattle.c_model.specs.GivenBlocks.{IsArgument, AreArguments, TakesArguments, SameResult, SameEnd, SameStep, result_form, SameFrom, ended23}
+use Rattle.c_model.specs.GivenBlocks.{IsArgument, AreArguments, TakesArguments, SameResult, SameEnd, SameStep, result_form, SameFrom, ended_from23}
 use Rattle.c_model.specs.TwoUnits.{SameRuns, Alike, SameExternals}
 
 -- integers are arguments
@@ -133,9 +133,9 @@ undefined_too form (Ends e s) (Ends f t) same (cause, place, is) = (cause, place
 pub same_runs_carry : (core other : source.Core) (program : target.Program) → SameRuns core other → SameExternals core other → SameFrom other program → SameFrom core program
 same_runs_carry core other program runs externals from n entry type given arguments world defines are takes =
     ⊎_elim inl
-    (λ (first : SameStep (result_form type) (ended23 n core given entry arguments world) (ended23 n other given entry arguments world)).
-    ⊎_elim (λ u. inl (undefined_too (result_form type) _ (ended23 n other given entry arguments world) first.end u))
-    (λ second. inr (steps_follow (result_form type) _ (ended23 n other given entry arguments world) _ first second))
+    (λ (first : SameStep (result_form type) (ended_from23 n core given entry arguments world) (ended_from23 n other given entry arguments world)).
+    ⊎_elim (λ u. inl (undefined_too (result_form type) _ (ended_from23 n other given entry arguments world) first.end u))
+    (λ second. inr (steps_follow (result_form type) _ (ended_from23 n other given entry arguments world) _ first second))
     (from n entry type given arguments world ((externals.functions entry type).0 defines) are takes))
     (runs n entry type given arguments world defines are takes)
 

@@ -6,7 +6,7 @@ use Rattle.model_types.specs.Types.{Integer}
 use Rattle.model_runs.specs.Memory.{Number}
 use Rattle.model_core.specs.CoreTypes.{int_type}
 use Rattle.c_model.specs.ExampleFaults.{array_of}
-use Rattle.c_model.specs.Seen.{Seen, Same}
+use Rattle.c_model.specs.Seen.{Seen, SeenAs}
 use Rattle.c_model.specs.Translation.{Holds23, Exports}
 use Rattle.c_model.specs.GivenBlocks.{SameStep}
 use Rattle.c_model.specs.ExampleGiven.{bumped, bumped89, exports_array, array_written, only_zeros}
@@ -25,7 +25,7 @@ abbrev IsStored : Option Seen → Type 0
 IsStored None = ⊥
 IsStored (Some seen) = Unit {0}
 
-nothing_stored : Some (Same (Number (pos 1))) ≡ None → ⊥
+nothing_stored : Some (SeenAs (Number (pos 1))) ≡ None → ⊥
 nothing_stored e = subst IsStored e tt
 
 pub zeros_are_not_exported : Exports exports_array (array_written only_zeros) → ⊥

@@ -1,5 +1,5 @@
 -- Texts that give two exported structures one tag, or write another member.
-use Rattle.std.proofs.Common.{◌≡◌, ◌<◌, ℕ, List, [], ◌∷◌, map, Option, Some, None, arith, refl, sym, ap, subst, ◌∙◌, inr, lit<}
+use Rattle.std.proofs.Common.{◌≡◌, ℕ, List, [], ◌∷◌, map, Option, Some, None, arith, refl, sym, ap, subst, ◌∙◌, inr, lit<}
 use Rattle.std.specs.Prelude.{codes}
 use Rattle.std.specs.Option.{option_map}
 use Rattle.model_types.specs.declared.types.StructId.{StructId}
@@ -8,7 +8,8 @@ use Rattle.model_core.specs.Program89 as text
 use Rattle.model_c89.specs.TargetLayout.{members_in}
 use Rattle.c_model.specs.ExampleFaults.{struct_type}
 use Rattle.c_model.specs.ExportedTypes.{by_name}
-use Rattle.c_model.specs.ExampleExported.{exports_structure, exports_structures, structure_written, one_structure_written, long89}
+use Rattle.c_model.specs.ExampleExported.{exports_structure, exports_structures, structure_written, one_structure_written}
+use Rattle.c_model.specs.ExampleTexts.{long89}
 use Rattle.c_model.specs.WrittenType.{StructNames, written_type}
 use Rattle.c_model.specs.Translation.{Holds23, Holds89, Exports}
 

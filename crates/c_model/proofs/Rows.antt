@@ -27,7 +27,8 @@ use Rattle.model_c89.specs.Typing89.{Typed}
 use Rattle.model_c89.specs.SpellingParts89.{declaration_text}
 use Rattle.model_c89.specs.Spelling89.{outers_text, canonical}
 use Rattle.model_c89.specs.Reading89.{Reads89}
-use Rattle.c_model.specs.FirstRow.{at, token, number, seven_text, seven_tokens, seven_core, seven_program, seven_written, overflow_tokens, overflow_core, nine_tokens, nine_core}
+use Rattle.c_model.specs.ExampleParts.{at_column as at}
+use Rattle.c_model.specs.FirstRow.{token, int_token, seven_text, seven_tokens, seven_core, seven_program, seven_written, overflow_tokens, overflow_core, nine_tokens, nine_core}
 use Rattle.model_c89.proofs.Spelled.{program_reads}
 
 -- the words before `return`
@@ -59,30 +60,30 @@ times_spelled : spelled (codes "*") ≡ Ok (Punct 11)
 unfolding spelled word_number punctuator_number
 times_spelled = refl
 
-is_number : (value : ℕ) (is : fits Int (pos value) ≡ true) (column order : ℕ) → IsConstant (number value is column order) value
+is_number : (value : ℕ) (is : fits Int (pos value) ≡ true) (column order : ℕ) → IsConstant (int_token value is column order) value
 is_number value is column order = record { constant = _; kind = refl; basic = refl; value = refl }
 
 -- a constant as a primary, and a product of it alone
-primary_of : (value : ℕ) (is : fits Int (pos value) ≡ true) (column order : ℕ) → IsPrimary (number value is column order ∷ []) (int_constant (pos value) (at column order))
-primary_of value is column order = constant (number value is column order ∷ []) (number value is column order) value (is_number value is column order) refl
+primary_of : (value : ℕ) (is : fits Int (pos value) ≡ true) (column order : ℕ) → IsPrimary (int_token value is column order ∷ []) (int_constant (pos value) (at column order))
+primary_of value is column order = constant (int_token value is column order ∷ []) (int_token value is column order) value (is_number value is column order) refl
 
-product_of : (value : ℕ) (is : fits Int (pos value) ≡ true) (column order : ℕ) → IsProduct (number value is column order ∷ []) (int_constant (pos value) (at column order))
-product_of value is column order = one_primary (number value is column order ∷ []) _ (primary_of value is column order)
+product_of : (value : ℕ) (is : fits Int (pos value) ≡ true) (column order : ℕ) → IsProduct (int_token value is column order ∷ []) (int_constant (pos value) (at column order))
+product_of value is column order = one_primary (int_token value is column order ∷ []) _ (primary_of value is column order)
 
-sum_of : (value : ℕ) (is : fits Int (pos value) ≡ true) (column order : ℕ) → IsSum (number value is column order ∷ []) (int_constant (pos value) (at column order))
-sum_of value is column order = one_product (number value is column order ∷ []) _ (product_of value is column order)
+sum_of : (value : ℕ) (is : fits Int (pos value) ≡ true) (column order : ℕ) → IsSum (int_token value is column order ∷ []) (int_constant (pos value) (at column order))
+sum_of value is column order = one_product (int_token value is column order ∷ []) _ (product_of value is column order)
 
 abbrev product : List CTok
-product = number 2 refl 29 9 ∷ token (Punct 11) 31 10 ∷ number 3 refl 33 11 ∷ []
+product = int_token 2 refl 29 9 ∷ token (Punct 11) 31 10 ∷ int_token 3 refl 33 11 ∷ []
 
 abbrev seven_sum : List CTok
-seven_sum = number 1 refl 25 7 ∷ token (Punct 38) 27 8 ∷ product
+seven_sum = int_token 1 refl 25 7 ∷ token (Punct 38) 27 8 ∷ product
 
 product_is : IsProduct product (int_operation Mul (int_constant (pos 2) (at 29 9)) (int_constant (pos 3) (at 33 11)) (at 31 10))
-product_is = multiplied product (number 2 refl 29 9 ∷ []) (number 3 refl 33 11 ∷ []) (token (Punct 11) 31 10) _ _ times_spelled (product_of 2 refl 29 9) (primary_of 3 refl 33 11) refl
+product_is = multiplied product (int_token 2 refl 29 9 ∷ []) (int_token 3 refl 33 11 ∷ []) (token (Punct 11) 31 10) _ _ times_spelled (product_of 2 refl 29 9) (primary_of 3 refl 33 11) refl
 
 seven_sum_is : IsSum seven_sum (int_operation Add (int_constant (pos 1) (at 25 7)) (int_operation Mul (int_constant (pos 2) (at 29 9)) (int_constant (pos 3) (at 33 11)) (at 31 10)) (at 27 8))
-seven_sum_is = added seven_sum (number 1 refl 25 7 ∷ []) product (token (Punct 38) 27 8) _ _ plus_spelled (sum_of 1 refl 25 7) product_is refl
+seven_sum_is = added seven_sum (int_token 1 refl 25 7 ∷ []) product (token (Punct 38) 27 8) _ _ plus_spelled (sum_of 1 refl 25 7) product_is refl
 
 pub seven_is_a_unit : IsUnit seven_tokens seven_core
 seven_is_a_unit = record {
@@ -143,10 +144,10 @@ pub seven_reads : Reads89 seven_written seven_program
 seven_reads = subst (λ t. Reads89 t seven_program) seven_spelling (program_reads seven_program seven_typed)
 
 abbrev overflow_sum : List CTok
-overflow_sum = number 2147483647 refl 25 7 ∷ token (Punct 38) 36 8 ∷ number 1 refl 38 9 ∷ []
+overflow_sum = int_token 2147483647 refl 25 7 ∷ token (Punct 38) 36 8 ∷ int_token 1 refl 38 9 ∷ []
 
 overflow_sum_is : IsSum overflow_sum (int_operation Add (int_constant (pos 2147483647) (at 25 7)) (int_constant (pos 1) (at 38 9)) (at 36 8))
-overflow_sum_is = added overflow_sum (number 2147483647 refl 25 7 ∷ []) (number 1 refl 38 9 ∷ []) (token (Punct 38) 36 8) _ _ plus_spelled (sum_of 2147483647 refl 25 7) (product_of 1 refl 38 9) refl
+overflow_sum_is = added overflow_sum (int_token 2147483647 refl 25 7 ∷ []) (int_token 1 refl 38 9 ∷ []) (token (Punct 38) 36 8) _ _ plus_spelled (sum_of 2147483647 refl 25 7) (product_of 1 refl 38 9) refl
 
 pub overflow_is_a_unit : IsUnit overflow_tokens overflow_core
 overflow_is_a_unit = record {
@@ -174,7 +175,7 @@ unfolding spelled word_number punctuator_number
 close_spelled = refl
 
 abbrev one_and_two : List CTok
-one_and_two = number 1 refl 26 8 ∷ token (Punct 38) 28 9 ∷ number 2 refl 30 10 ∷ []
+one_and_two = int_token 1 refl 26 8 ∷ token (Punct 38) 28 9 ∷ int_token 2 refl 30 10 ∷ []
 
 abbrev in_them : List CTok
 in_them = token (Punct 3) 25 7 ∷ (one_and_two ++ token (Punct 4) 31 11 ∷ [])
@@ -183,16 +184,16 @@ abbrev one_plus_two : Expr
 one_plus_two = int_operation Add (int_constant (pos 1) (at 26 8)) (int_constant (pos 2) (at 30 10)) (at 28 9)
 
 one_plus_two_is : IsSum one_and_two one_plus_two
-one_plus_two_is = added one_and_two (number 1 refl 26 8 ∷ []) (number 2 refl 30 10 ∷ []) (token (Punct 38) 28 9) _ _ plus_spelled (sum_of 1 refl 26 8) (product_of 2 refl 30 10) refl
+one_plus_two_is = added one_and_two (int_token 1 refl 26 8 ∷ []) (int_token 2 refl 30 10 ∷ []) (token (Punct 38) 28 9) _ _ plus_spelled (sum_of 1 refl 26 8) (product_of 2 refl 30 10) refl
 
 in_them_is : IsProduct in_them (in_parentheses (at 25 7) one_plus_two)
 in_them_is = one_primary in_them _ (parenthesised in_them (token (Punct 3) 25 7) (token (Punct 4) 31 11) one_and_two one_plus_two open_spelled close_spelled one_plus_two_is refl)
 
 abbrev nine_sum : List CTok
-nine_sum = in_them ++ (token (Punct 11) 33 12 ∷ number 3 refl 35 13 ∷ [])
+nine_sum = in_them ++ (token (Punct 11) 33 12 ∷ int_token 3 refl 35 13 ∷ [])
 
 nine_sum_is : IsSum nine_sum (int_operation Mul (in_parentheses (at 25 7) one_plus_two) (int_constant (pos 3) (at 35 13)) (at 33 12))
-nine_sum_is = one_product nine_sum _ (multiplied nine_sum in_them (number 3 refl 35 13 ∷ []) (token (Punct 11) 33 12) _ _ times_spelled in_them_is (primary_of 3 refl 35 13) refl)
+nine_sum_is = one_product nine_sum _ (multiplied nine_sum in_them (int_token 3 refl 35 13 ∷ []) (token (Punct 11) 33 12) _ _ times_spelled in_them_is (primary_of 3 refl 35 13) refl)
 
 pub nine_is_a_unit : IsUnit nine_tokens nine_core
 nine_is_a_unit = record {

@@ -11,7 +11,7 @@ use Rattle.model_core.specs.Types89 as type89
 use Rattle.model_core.specs.Program89 as text
 use Rattle.c_model.specs.ExampleParts.{no_mark, variable, load, binary, assigned, call, evaluate, block, return, function_type, automatic, function, unit}
 use Rattle.c_model.specs.ExampleList.{int_void, implied}
-use Rattle.c_model.specs.ExampleTexts.{stats, name, number, main_outer, main_function}
+use Rattle.c_model.specs.ExampleTexts.{stats, name, number89, long89, main_outer, main_function}
 use Rattle.c_model.specs.ExampleFaults.{array_of, struct_type, static, int_value_at, member, structure, in_table}
 
 -- zeros of static objects
@@ -32,9 +32,6 @@ zeros_read_as_long =
     (Constant (pos 0) long_type no_mark))
     ∷ []))) ∷ [])
 
-abbrev pub long89 : type89.Type89
-long89 = type89.Based false type89.Long
-
 -- static int a_1[3] = {0, 0, 5}; int main(void) { return ((*((long *)a_1)) == 0L); }
 abbrev pub zeros_written : text.Program
 zeros_written = record {
@@ -43,7 +40,7 @@ zeros_written = record {
     storage = text.Static;
     type = type89.Array (Some 3) type89.int_type;
     name = codes "a_1";
-    init = Some (text.Braces (text.Value (number 0)) (text.more_inits (text.Value (number 0)) (text.more_inits (text.Value (number 5)) text.no_inits)));
+    init = Some (text.Braces (text.Value (number89 0)) (text.more_inits (text.Value (number89 0)) (text.more_inits (text.Value (number89 5)) text.no_inits)));
   } ∷ main_outer ∷ [];
   functions = main_function []
       (text.Return (text.Binary Equal
@@ -79,18 +76,18 @@ int_x = record { type = type89.int_type; name = codes "x_1" }
 
 -- { int x_1; x_1 = 5; .. }
 abbrev pub block_of_x : List text.Stat → text.Stat
-block_of_x others = text.Block (int_x ∷ []) (stats (text.Assign (name (codes "x_1")) (number 5) ∷ others))
+block_of_x others = text.Block (int_x ∷ []) (stats (text.Assign (name (codes "x_1")) (number89 5) ∷ others))
 
 abbrev pub with_body : List text.Stat → text.Program
 with_body body = record { structures = []; outers = main_outer ∷ []; functions = main_function [] body ∷ [] }
 
 -- { int x_1; x_1 = 5; } { int x_1; x_1 = 5; } return 0;
 abbrev pub side_by_side : text.Program
-side_by_side = with_body (block_of_x [] ∷ block_of_x [] ∷ text.Return (number 0) ∷ [])
+side_by_side = with_body (block_of_x [] ∷ block_of_x [] ∷ text.Return (number89 0) ∷ [])
 
 -- { int x_1; x_1 = 5; { int x_1; x_1 = 5; } } return 0;
 abbrev pub one_in_another : text.Program
-one_in_another = with_body (block_of_x (block_of_x [] ∷ []) ∷ text.Return (number 0) ∷ [])
+one_in_another = with_body (block_of_x (block_of_x [] ∷ []) ∷ text.Return (number89 0) ∷ [])
 
 -- structures
 

@@ -44,6 +44,3 @@ structure_written member = struct_written member (struct_object89 (codes "x") �
 -- struct s { int m; }; struct s x; struct s y;
 abbrev pub one_structure_written : text.Program
 one_structure_written = struct_written type89.int_type (struct_object89 (codes "x") ∷ struct_object89 (codes "y") ∷ [])
-
-abbrev pub long89 : type89.Type89
-long89 = type89.Based false type89.Long

@@ -1,7 +1,7 @@
 -- Cores that aren't typed, each by one thing, some that are where it may be doubted, and C89 programs whose
 -- declarations don't agree.
 use Rattle.std.specs.Prelude.{ℕ, pos, true, false, List, [], ◌∷◌, codes, Option, Some, None}
-use Rattle.model_types.specs.declared.numbers.Basic.TheVariants.{Char, Int}
+use Rattle.model_types.specs.declared.numbers.Basic.TheVariants.{Char}
 use Rattle.model_types.specs.declared.numbers.BinOp.{BinOp}
 use Rattle.model_types.specs.declared.numbers.BinOp.TheVariants.{Add, Equal}
 use Rattle.model_types.specs.declared.operators.LogicOp.TheVariants.{And}
@@ -9,12 +9,14 @@ use Rattle.model_types.specs.declared.marks.Origin.TheVariants.{Written, Implied
 use Rattle.model_types.specs.Types.{CType, typed, Void, Integer, Array, Struct, Function as FunctionForm, types}
 use Rattle.model_types.specs.Structures.{Member, Structure}
 use Rattle.model_core.specs.CoreTypes.{int_type, plain, pointer_to}
-use Rattle.model_core.specs.Core.{Core, Expr, Constant, Address, Logic, Assign, Compound, Lvalue, Field, Deref, Initials, no_initials, more_initials, Stat, Parameter, Static, Declared, Text, DeclaredObject, no_stat, a_stat}
+use Rattle.model_core.specs.Core.{Core, Expr, Constant, Address, Logic, Assign, Compound, Lvalue, Field, Deref, Initials, no_initials, more_initials}
+use Rattle.model_core.specs.Core.{Stat, Parameter, Static, Declared, Text, DeclaredObject, no_stat, a_stat}
 use Rattle.c_model.specs.ExampleParts.{nowhere, no_mark, number, int_variable, variable, load, binary, assigned, call, evaluate, block, return, function_type, automatic, stored_as, function, unit}
 use Rattle.c_model.specs.ExampleList.{is_const, int_void, implied, const_int}
 use Rattle.model_core.specs.Types89 as type89
 use Rattle.model_core.specs.Program89 as text
-use Rattle.c_model.specs.FirstRow.{program_returning, int_number}
+use Rattle.c_model.specs.FirstRow.{program_returning}
+use Rattle.c_model.specs.ExampleTexts.{number89, outside, main_outer}
 use Rattle.model_core.specs.BuiltinTypes.{size_type}
 
 -- a unit whose `main` does this with these objects
@@ -208,26 +210,23 @@ function89 = type89.Function type89.int_type type89.no_types false
 
 -- int main(void) { return 0; } behind these declarations
 abbrev pub declaring89 : List text.Outer → text.Program
-declaring89 outers = record (program_returning (int_number 0)) { outers = outers }
+declaring89 outers = record (program_returning (number89 0)) { outers = outers }
 
 abbrev pub main89 : text.Storage → text.Outer
-main89 storage = outer89 storage function89 (codes "main") None
+main89 storage = record main_outer { storage = storage }
 
 abbrev pub object89 : text.Storage → text.Outer
-object89 storage = outer89 storage type89.int_type (codes "x") (Some (text.Value (int_number 0)))
+object89 storage = outer89 storage type89.int_type (codes "x") (Some (text.Value (number89 0)))
 
 -- a `main` that returns this value, behind these declarations
 abbrev pub returning89 : List text.Outer → text.Expr → text.Program
 returning89 outers e = record (program_returning e) { outers = main89 text.Plainly ∷ outers }
 
-abbrev pub extern89 : type89.Type89 → List ℕ → text.Outer
-extern89 type name = outer89 text.Extern type name None
-
 -- extern int f(void); extern int *p; extern void *v;
 abbrev pub outside89 : List text.Outer
 outside89 =
-    extern89 function89 (codes "f") ∷ extern89 (type89.Pointer false type89.int_type) (codes "p")
-    ∷ extern89 (type89.Pointer false (type89.Based false type89.Void)) (codes "v") ∷ []
+    outside (codes "f") function89 ∷ outside (codes "p") (type89.Pointer false type89.int_type)
+    ∷ outside (codes "v") (type89.Pointer false (type89.Based false type89.Void)) ∷ []
 
 abbrev pub f89 : text.Expr
 f89 = text.Name (codes "f")
@@ -240,14 +239,14 @@ v89 = text.Name (codes "v")
 
 -- ((1 ? v : p) == p)
 abbrev pub joined89 : text.Expr → text.Expr
-joined89 first = text.Binary Equal (text.Choice (int_number 1) first p89) p89
+joined89 first = text.Binary Equal (text.Choice (number89 1) first p89) p89
 
 -- static T x = e;
 abbrev pub started89 : type89.Type89 → text.Expr → text.Program
-started89 type e = declaring89 (main89 text.Plainly ∷ extern89 function89 (codes "f") ∷ outer89 text.Static type (codes "x") (Some (text.Value e)) ∷ [])
+started89 type e = declaring89 (main89 text.Plainly ∷ outside (codes "f") function89 ∷ outer89 text.Static type (codes "x") (Some (text.Value e)) ∷ [])
 
 abbrev pub char_pointer89 : type89.Type89
 char_pointer89 = type89.Pointer false (type89.Based false type89.Char)
 
 abbrev pub null89 : text.Expr
-null89 = text.Cast char_pointer89 (int_number 0)
+null89 = text.Cast char_pointer89 (number89 0)

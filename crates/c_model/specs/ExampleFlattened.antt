@@ -3,7 +3,7 @@ use Rattle.model_types.specs.declared.numbers.BinOp.TheVariants.{Add}
 use Rattle.model_core.specs.Core.{Expr}
 use Rattle.model_core.specs.Program89 as text
 use Rattle.c_model.specs.ExampleParts.{number, binary}
-use Rattle.c_model.specs.ExampleTexts.{number as number89}
+use Rattle.c_model.specs.ExampleTexts.{number89}
 
 -- 1 + 2
 abbrev pub sum : Expr

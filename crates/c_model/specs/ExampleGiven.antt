@@ -10,9 +10,9 @@ use Rattle.model_core.specs.Program89 as text
 use Rattle.model_runs.specs.Memory.{Given, Number, Address, Holds, Value, Single, Memory, fresh}
 use Rattle.model_runs.specs.Run.{Step}
 use Rattle.c_model.specs.ExampleParts.{no_mark, number, variable, load, evaluate, block, return, function_type, automatic, stored_as, function, unit}
-use Rattle.c_model.specs.ExampleTexts.{stats, name, number as number89}
+use Rattle.c_model.specs.ExampleTexts.{stats, name, number89}
 use Rattle.c_model.specs.ExampleFaults.{array_of, static}
-use Rattle.c_model.specs.GivenBlocks.{ended23, ended89}
+use Rattle.c_model.specs.GivenBlocks.{ended_from23, ended_from89}
 
 abbrev pub int_pointer : CType
 int_pointer = pointer_to int_type
@@ -21,22 +21,22 @@ abbrev pub bump_type : CType
 bump_type = function_type int_type (int_pointer ∷ [])
 
 -- *p
-abbrev pub pointed : Lvalue
-pointed = Deref (load (variable 1 int_pointer)) no_mark
+abbrev pub pointed_int : Lvalue
+pointed_int = Deref (load (variable 1 int_pointer)) no_mark
 
 -- int bump(int *p) { *p += 2; return *p; }
 abbrev pub bumps : Core
 bumps =
     unit (stored_as Parameter (automatic 1 int_pointer) ∷ [])
     (function 2 (codes "bump") bump_type (1 ∷ []) (a_stat (block []
-    (evaluate (Assign (Compound Add int_type) pointed (number 2) no_mark) ∷ return (load pointed) ∷ []))) ∷ [])
+    (evaluate (Assign (Compound Add int_type) pointed_int (number 2) no_mark) ∷ return (load pointed_int) ∷ []))) ∷ [])
 
 abbrev pub pointer89 : type89.Type89
 pointer89 = type89.Pointer false type89.int_type
 
 -- (*p_1)
-abbrev pub pointed89 : text.Expr
-pointed89 = text.Unary text.Deref (name (codes "p_1"))
+abbrev pub pointed_int89 : text.Expr
+pointed_int89 = text.Unary text.Deref (name (codes "p_1"))
 
 -- int bump(int *p_1) { (*p_1) = ((*p_1) + 2); return (*p_1); }
 abbrev pub bumps_written : text.Program
@@ -50,7 +50,7 @@ bumps_written = record {
     parameters = record { type = pointer89; name = codes "p_1" } ∷ [];
     is_variadic = false;
     objects = [];
-    body = stats (text.Assign pointed89 (text.Binary Add pointed89 (number89 2)) ∷ text.Return pointed89 ∷ []);
+    body = stats (text.Assign pointed_int89 (text.Binary Add pointed_int89 (number89 2)) ∷ text.Return pointed_int89 ∷ []);
   } ∷ [];
 }
 
@@ -62,10 +62,10 @@ abbrev pub at_five : List Value
 at_five = Single (Address (Given 1) (pos 0)) ∷ []
 
 abbrev pub bumped : Step Value
-bumped = ended23 100 bumps five (codes "bump") at_five []
+bumped = ended_from23 100 bumps five (codes "bump") at_five []
 
 abbrev pub bumped89 : Step Value
-bumped89 = ended89 100 bumps_written five (codes "bump") at_five []
+bumped89 = ended_from89 100 bumps_written five (codes "bump") at_five []
 
 -- int a[2] = {1, 2};
 abbrev pub one_and_two : Initials

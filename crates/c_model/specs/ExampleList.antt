@@ -1,6 +1,6 @@
 -- A unit that builds a list on the heap, prints it and frees it, as a core, with what its run has to be.
 use Rattle.std.specs.Prelude.{ℕ, pos, true, false, List, [], ◌∷◌, codes, Some}
-use Rattle.model_types.specs.declared.numbers.Basic.TheVariants.{Char, Int, UnsignedLong}
+use Rattle.model_types.specs.declared.numbers.Basic.TheVariants.{Char, Int}
 use Rattle.model_types.specs.declared.numbers.BinOp.TheVariants.{LessEqual}
 use Rattle.model_types.specs.declared.operators.UnaryOp.TheVariants.{Not}
 use Rattle.model_types.specs.declared.marks.Origin.TheVariants.{Implied}
@@ -11,7 +11,8 @@ use Rattle.model_types.specs.Structures.{Structure}
 use Rattle.model_core.specs.CoreTypes.{int_type, plain, no_quals}
 use Rattle.model_runs.specs.Run.{Run, Event, Integer as IntegerArgument, StringAt, Took, Freed, Returned}
 use Rattle.model_core.specs.Core.{Core, Expr, Constant, Convert, Address, Unary, Lvalue, Arrow, Stat, If, While, For, no_expr, an_expr, no_stat, a_stat, Parameter, Text}
-use Rattle.c_model.specs.ExampleParts.{nowhere, no_mark, no_span, number, int_variable, variable, load, binary, assigned, call, increment, evaluate, start, block, return, function_type, automatic, stored_as, function, int_value}
+use Rattle.c_model.specs.ExampleParts.{nowhere, no_mark, no_span, number, int_variable, variable, load, binary, assigned, call, increment, evaluate}
+use Rattle.c_model.specs.ExampleParts.{start, block, return, function_type, automatic, stored_as, function, int_value}
 use Rattle.model_core.specs.BuiltinTypes.{size_type, owner_or_null}
 
 abbrev pub node_id : StructId

@@ -2,11 +2,12 @@
 use Rattle.std.specs.Prelude.{ℕ, pos, true, false, [], ◌∷◌, codes, Some, None, Result, Ok, Err}
 use Rattle.model_types.specs.declared.numbers.Basic.TheVariants.{Char, Int}
 use Rattle.model_types.specs.declared.outcomes.Cause.{Cause}
-use Rattle.model_runs.specs.Memory.{Numbered, Block, Global, Heap, Number, Address, Value, Single, Contents, Memory, fresh, zeroed}
+use Rattle.model_runs.specs.Memory.{Numbered, Block, Global, Heap, Address, Value, Single, Contents, Memory, fresh, zeroed}
 use Rattle.model_types.specs.Shapes.{Shape, IntegerShape}
 use Rattle.model_runs.specs.Stores.{store}
 use Rattle.model_runs.specs.Outside.{Passed, HandleAnswer, IntegerAnswer, call_outside}
 use Rattle.model_runs.specs.SourceStart.{text_contents}
+use Rattle.c_model.specs.ExampleParts.{int_value}
 use Rattle.model_runs.specs.Run.{Run, Event, StringAt, HandleNumber, Act, ◌▷◌, run_of, start_with}
 
 abbrev pub int_shape : Shape
@@ -15,15 +16,12 @@ int_shape = IntegerShape Int
 abbrev pub char_shape : Shape
 char_shape = IntegerShape Char
 
-abbrev pub block : Block
-block = Heap 1
+abbrev pub heap_block : Block
+heap_block = Heap 1
 
--- a block of eight bytes
+-- memory of one block
 abbrev pub holding : Contents → Memory
-holding contents = (block, contents) ∷ []
-
-abbrev pub number : ℕ → Value
-number n = Single (Number (pos n))
+holding contents = (heap_block, contents) ∷ []
 
 abbrev pub memory_or : Result Memory Cause → Memory
 memory_or (Ok memory) = memory
@@ -31,11 +29,11 @@ memory_or (Err cause) = []
 
 -- 5 as an int at its beginning
 abbrev pub with_five : Memory
-with_five = memory_or (store (holding (fresh 8)) int_shape block (pos 0) (number 5))
+with_five = memory_or (store (holding (fresh 8)) int_shape heap_block (pos 0) (int_value 5))
 
 -- zeros, with 7 as a char at byte 1
 abbrev pub zeros_with_seven : Memory
-zeros_with_seven = memory_or (store (holding (zeroed 8)) char_shape block (pos 1) (number 7))
+zeros_with_seven = memory_or (store (holding (zeroed 8)) char_shape heap_block (pos 1) (int_value 7))
 
 -- two strings
 abbrev pub with_texts : Memory

@@ -10,7 +10,10 @@ use Rattle.model_types.specs.Types.{CType, Function as FunctionForm, types}
 use Rattle.model_core.specs.CoreTypes.{int_type, plain}
 use Rattle.model_runs.specs.Memory.{Value, Single, Number}
 use Rattle.model_runs.specs.Run.{Event, Integer as IntegerArgument}
-use Rattle.model_core.specs.Core.{Expr, Constant, Load, FunctionRef, Binary, Call, Assign, Plain, Step, Lvalue, Object, exprs, no_initials, more_initials, Stat, Evaluate, Start, Block, Return, an_expr, MaybeStat, stats, Storage, Automatic, Static, DeclaredObject, Function, Named, Core}
+use Rattle.c_model.specs.FirstUnit.{mark_at}
+use Rattle.model_core.specs.Core.{Expr, Constant, Load, FunctionRef, Binary, Call, Assign, Plain, Step, Lvalue, Object, exprs, no_initials}
+use Rattle.model_core.specs.Core.{more_initials, Stat, Evaluate, Start, Block, Return, an_expr, MaybeStat, stats, Storage, Automatic, Static}
+use Rattle.model_core.specs.Core.{DeclaredObject, Function, Named, Core}
 
 -- a place on the first line
 abbrev pub at_column : (column order : ℕ) → Place
@@ -19,11 +22,8 @@ at_column column order = record { file = 0; line = 1; column = column; order = o
 abbrev pub nowhere : Place
 nowhere = at_column 1 0
 
-abbrev pub mark_of : Place → Mark
-mark_of place = record { at = place; first = place; outer = place }
-
 abbrev pub no_mark : Mark
-no_mark = mark_of nowhere
+no_mark = mark_at nowhere
 
 abbrev pub no_span : Span
 no_span = record { first = nowhere; last = nowhere }

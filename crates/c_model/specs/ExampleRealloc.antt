@@ -8,7 +8,7 @@ use Rattle.model_core.specs.Types89 as type89
 use Rattle.model_core.specs.Program89 as text
 use Rattle.c_model.specs.ExampleParts.{no_mark, number, call, evaluate, block, return, function_type, function, unit}
 use Rattle.c_model.specs.ExampleList.{int_void}
-use Rattle.c_model.specs.ExampleTexts.{outside, name, two_arguments, number as number89, main_outer, main_function}
+use Rattle.c_model.specs.ExampleTexts.{outside, name, two_arguments, number89, main_outer, main_function}
 use Rattle.model_core.specs.BuiltinTypes.{size_type}
 use Rattle.model_c89.specs.TargetRun.{void_pointer, size_type as size89}
 

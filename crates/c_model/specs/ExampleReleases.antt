@@ -10,7 +10,9 @@ use Rattle.model_types.specs.Types.{CType, typed, Integer, Pointer, Struct}
 use Rattle.model_core.specs.CoreTypes.{int_type, no_quals, plain}
 use Rattle.model_runs.specs.Run.{Run, Took, Freed, Returned, Undefined}
 use Rattle.model_core.specs.Core.{Core, Call, FunctionRef, Assign, Plain, Unary, exprs, Lvalue, Object, Deref, Stat, If, For, no_expr, an_expr, no_stat, a_stat, DeclaredObject}
-use Rattle.c_model.specs.ExampleParts.{nowhere, mark_of, no_mark, no_span, number, int_variable, load, binary, increment, call, evaluate, start, block, return, function_type, automatic, function, unit, int_value}
+use Rattle.c_model.specs.FirstUnit.{mark_at}
+use Rattle.c_model.specs.ExampleParts.{nowhere, no_mark, no_span, number, int_variable, load, binary, increment, call, evaluate, start, block, return}
+use Rattle.c_model.specs.ExampleParts.{function_type, automatic, function, unit, int_value}
 use Rattle.c_model.specs.ExampleList.{node_id, void_owner, free_type, int_void, implied}
 use Rattle.model_core.specs.BuiltinTypes.{size_type, owner_or_null}
 
@@ -30,7 +32,7 @@ malloc_type = function_type void_owner (size_type ∷ [])
 
 -- p, where its name stands
 abbrev pub owner_at : Place → Lvalue
-owner_at place = Object 10 char_owner (mark_of place)
+owner_at place = Object 10 char_owner (mark_at place)
 
 -- char * _Owner _Opt p = malloc(1);
 abbrev pub start_owner : Stat
@@ -38,12 +40,12 @@ start_owner = start 10 char_owner (implied char_owner (call 1 malloc_type (impli
 
 -- *p = 1;
 abbrev pub store_through : (star name : Place) → Stat
-store_through star name = evaluate (Assign Plain (Deref (load (owner_at name)) (mark_of star)) (implied char_type (number 1)) no_mark)
+store_through star name = evaluate (Assign Plain (Deref (load (owner_at name)) (mark_at star)) (implied char_type (number 1)) no_mark)
 
 -- free(p);
 abbrev pub free_at : (parenthesis name : Place) → Stat
 free_at parenthesis name =
-    evaluate (Call (FunctionRef 2 free_type true no_mark) (exprs (implied void_owner (load (owner_at name)) ∷ [])) (mark_of parenthesis))
+    evaluate (Call (FunctionRef 2 free_type true no_mark) (exprs (implied void_owner (load (owner_at name)) ∷ [])) (mark_at parenthesis))
 
 abbrev pub owner_object : DeclaredObject
 owner_object = record (automatic 10 char_owner) { name = Some (codes "p") }

@@ -7,7 +7,10 @@ use Rattle.model_types.specs.Types.{CType}
 use Rattle.model_core.specs.CoreTypes.{int_type, pointer_to}
 use Rattle.model_runs.specs.Run.{Run, Event, Returned, Undefined}
 use Rattle.model_core.specs.Core.{Core, Expr, Call, FunctionRef, Load, Choice, Object, exprs, Stat, Defer, If, Continue, For, no_expr, an_expr, no_stat, a_stat, Parameter, Lambda}
-use Rattle.c_model.specs.ExampleParts.{at_column, nowhere, mark_of, no_mark, no_span, number, int_variable, variable, load, binary, assigned, call, increment, evaluate, start, block, return, function_type, automatic, stored_as, global_int, function, unit, int_value, called_with}
+use Rattle.c_model.specs.FirstUnit.{mark_at}
+use Rattle.c_model.specs.ExampleParts.{at_column, nowhere, no_mark, no_span, number, int_variable, variable, load, binary, assigned, call, increment}
+use Rattle.c_model.specs.ExampleParts.{evaluate, start, block, return, function_type, automatic, stored_as, global_int, function, unit, int_value}
+use Rattle.c_model.specs.ExampleParts.{called_with}
 use Rattle.c_model.specs.ExampleList.{int_void}
 
 abbrev pub int_int : CType
@@ -116,7 +119,7 @@ no_value =
     (automatic 1 int_type ∷ [])
     (function 2 (codes "main") int_void [] (
     a_stat
-    (block (1 ∷ []) (return (Load (Object 1 int_type (mark_of (at_column 32 10))) (mark_of (at_column 32 10))) ∷ []))
+    (block (1 ∷ []) (return (Load (Object 1 int_type (mark_at (at_column 32 10))) (mark_at (at_column 32 10))) ∷ []))
     )
     ∷ [])
 
@@ -132,7 +135,7 @@ with_nothing e =
     ∷ [])
 
 abbrev pub call_of_nothing : Expr
-call_of_nothing = Call (FunctionRef 1 int_void true no_mark) (exprs []) (mark_of (at_column 39 16))
+call_of_nothing = Call (FunctionRef 1 int_void true no_mark) (exprs []) (mark_at (at_column 39 16))
 
 abbrev pub chosen_nothing : Expr
 chosen_nothing = Choice (number 1) call_of_nothing (number 0) no_mark

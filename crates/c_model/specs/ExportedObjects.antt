@@ -3,29 +3,26 @@
 use Rattle.std.specs.Prelude.{ℕ, ℤ, List, [], Option, Some, None, if◌then◌else◌}
 use Rattle.model_runs.specs.Memory.{Numbered, Named, Block, Global, Outside, Scalar, Number, Null, Address, Code, Cell, contents_of}
 use Rattle.model_runs.specs.Run.{Step, Goes, Ends, start_with}
+use Rattle.model_core.specs.TypedUnitParts.{name_of}
 use Rattle.model_core.specs.Core as source
 use Rattle.model_runs.specs.SourceStart as source_start
 use Rattle.model_core.specs.Program89 as target
 use Rattle.model_c89.specs.TargetStart as target_start
 use Rattle.model_c89.specs.TargetRun as target_run
-use Rattle.c_model.specs.Seen.{Seen, Same, Other, cells_of}
+use Rattle.c_model.specs.Seen.{Seen, SeenAs, Other, cells_or_none}
 
 -- a pointer into the external object of a name, and to its function
 abbrev pub into : Option (List ℕ) → (offset : ℤ) → Seen
 into None offset = Other
-into (Some name) offset = Same (Address (Global (Named name)) offset)
+into (Some name) offset = SeenAs (Address (Global (Named name)) offset)
 
 abbrev pub to_function : Option (List ℕ) → Seen
 to_function None = Other
-to_function (Some name) = Same (Code (Named name))
+to_function (Some name) = SeenAs (Code (Named name))
 
 abbrev pub external_name : Option source.DeclaredObject → Option (List ℕ)
 external_name None = None
 external_name (Some o) = if o.is_external then o.name else None
-
-abbrev pub name_of : source.FunctionName → Option (List ℕ)
-name_of (source.Named name) = Some name
-name_of (source.Lambda place) = None
 
 abbrev pub external_function_name : Option source.Function → Option (List ℕ)
 external_function_name None = None
@@ -34,10 +31,10 @@ external_function_name (Some g) = if g.is_external then name_of g.name else None
 -- what another unit can tell of a scalar of a unit: an integer, null, and a pointer into what has an external
 -- name
 abbrev pub shared23 : source.Core → Scalar → Seen
-shared23 core (Number value) = Same (Number value)
-shared23 core Null = Same Null
+shared23 core (Number value) = SeenAs (Number value)
+shared23 core Null = SeenAs Null
 shared23 core (Address (Global (Numbered id)) offset) = into (external_name (source.object_of core.objects id)) offset
-shared23 core (Address (Outside name) offset) = Same (Address (Outside name) offset)
+shared23 core (Address (Outside name) offset) = SeenAs (Address (Outside name) offset)
 shared23 core (Code (Numbered id)) = to_function (external_function_name (source.function_by_id core.functions id))
 shared23 core scalar = Other
 
@@ -52,16 +49,16 @@ named_function name (Some g) = if g.is_static then None else Some name
 
 -- and of a scalar of a text
 abbrev pub shared89 : target.Program → Scalar → Seen
-shared89 program (Number value) = Same (Number value)
-shared89 program Null = Same Null
+shared89 program (Number value) = SeenAs (Number value)
+shared89 program Null = SeenAs Null
 shared89 program (Address (Global (Named name)) offset) = into (named_object name (target.external_object program.outers name)) offset
-shared89 program (Address (Outside name) offset) = Same (Address (Outside name) offset)
+shared89 program (Address (Outside name) offset) = SeenAs (Address (Outside name) offset)
 shared89 program (Code (Named name)) = to_function (named_function name (target.function_of program.functions name))
 shared89 program scalar = Other
 
 -- the cells of a block, where static objects have got their values
 abbrev pub cells_behind : Step (Unit {0}) → Block → List Cell
-cells_behind (Goes u s) block = cells_of (contents_of s.memory block)
+cells_behind (Goes u s) block = cells_or_none (contents_of s.memory block)
 cells_behind (Ends ending s) block = []
 
 -- those that an object of the unit begins with, and the object of a name in the text

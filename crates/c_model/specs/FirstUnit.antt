@@ -1,5 +1,5 @@
 -- The grammar of the units `int main(void) { return E; }`, over tokens of C, with the core of each
--- (ISO/IEC 9899:2024, 6.5.6, 6.5.7 and 6.9.2), and the token with which no such unit can go on.
+-- (ISO/IEC 9899:2024, 5.1.2.3.4, 6.5.6, 6.5.7 and 6.9.2), and the token with which no such unit can go on.
 use Rattle.std.specs.Prelude.{◌≡◌, ℕ, zero, suc, ◌+◌, ◌<◌, ℤ, pos, true, false, if◌then◌else◌, List, [], ◌∷◌, ◌++◌, map, take, length, Result, Ok, codes}
 use Rattle.cake_base.specs.declared.places.Place.{Place}
 use Rattle.model_types.specs.declared.numbers.Basic.TheVariants.{Int}
@@ -15,7 +15,7 @@ use Rattle.model_core.specs.CoreTypes.{int_type, plain}
 use Rattle.model_core.specs.SourceMarks.{expr_mark}
 use Rattle.model_types.specs.Types.{CType, Function as FunctionForm, no_types}
 use Rattle.model_tokens.specs.CTokens.{is_identifier, name_token, punctuator_token}
-use Rattle.model_core.specs.Core.{Expr, Constant, Binary, Return, Block, an_expr, a_stat, stats, Named, Core}
+use Rattle.model_core.specs.Core.{Expr, Constant, Binary, Stat, Return, Block, an_expr, a_stat, stats, Named, Core}
 
 -- what a spelling of a word, a name or a punctuator is converted into
 unfoldable pub spelled : List ℕ → Result CKind TokenRule
@@ -58,18 +58,22 @@ mutual
   -- sum = product | sum ("+" | "-") product
   pub data IsSum : List CTok → Expr → Type 0 where
     one_product : (ts : List CTok) (e : Expr) → IsProduct ts e → IsSum ts e
-    added : (ts : List CTok) (left right : List CTok) (sign : CTok) (a b : Expr) → IsSpelled (codes "+") sign → IsSum left a → IsProduct right b → ts ≡ left ++ sign ∷ right → IsSum ts (int_operation Add a b sign.place)
-    subtracted : (ts : List CTok) (left right : List CTok) (sign : CTok) (a b : Expr) → IsSpelled (codes "-") sign → IsSum left a → IsProduct right b → ts ≡ left ++ sign ∷ right → IsSum ts (int_operation Sub a b sign.place)
+    added : (ts : List CTok) (left right : List CTok) (sign : CTok) (a b : Expr) → IsSpelled (codes "+") sign →
+        IsSum left a → IsProduct right b → ts ≡ left ++ sign ∷ right → IsSum ts (int_operation Add a b sign.place)
+    subtracted : (ts : List CTok) (left right : List CTok) (sign : CTok) (a b : Expr) → IsSpelled (codes "-") sign →
+        IsSum left a → IsProduct right b → ts ≡ left ++ sign ∷ right → IsSum ts (int_operation Sub a b sign.place)
 
   -- product = primary | product "*" primary
   pub data IsProduct : List CTok → Expr → Type 0 where
     one_primary : (ts : List CTok) (e : Expr) → IsPrimary ts e → IsProduct ts e
-    multiplied : (ts : List CTok) (left right : List CTok) (sign : CTok) (a b : Expr) → IsSpelled (codes "*") sign → IsProduct left a → IsPrimary right b → ts ≡ left ++ sign ∷ right → IsProduct ts (int_operation Mul a b sign.place)
+    multiplied : (ts : List CTok) (left right : List CTok) (sign : CTok) (a b : Expr) → IsSpelled (codes "*") sign →
+        IsProduct left a → IsPrimary right b → ts ≡ left ++ sign ∷ right → IsProduct ts (int_operation Mul a b sign.place)
 
   -- primary = constant | "(" sum ")"
   pub data IsPrimary : List CTok → Expr → Type 0 where
     constant : (ts : List CTok) (token : CTok) (number : ℕ) → IsConstant token number → ts ≡ token ∷ [] → IsPrimary ts (int_constant (pos number) token.place)
-    parenthesised : (ts : List CTok) (open_ close : CTok) (inner : List CTok) (e : Expr) → IsSpelled (codes "(") open_ → IsSpelled (codes ")") close → IsSum inner e → ts ≡ open_ ∷ (inner ++ close ∷ []) → IsPrimary ts (in_parentheses open_.place e)
+    parenthesised : (ts : List CTok) (open_ close : CTok) (inner : List CTok) (e : Expr) → IsSpelled (codes "(") open_ →
+        IsSpelled (codes ")") close → IsSum inner e → ts ≡ open_ ∷ (inner ++ close ∷ []) → IsPrimary ts (in_parentheses open_.place e)
 
 -- the words of a unit before its `return`
 abbrev pub head_words : List (List ℕ)
@@ -97,6 +101,10 @@ places_of head return_ brace = record {
   close_brace = brace.place;
 }
 
+-- what stands at the `}` of `main` (5.1.2.3.4)
+abbrev pub ending : Place → Stat
+ending brace = Return (an_expr (int_constant (pos 0) brace)) brace
+
 -- a unit whose `main` returns this value
 abbrev pub returning : Expr → UnitPlaces → Core
 returning value places = record {
@@ -107,7 +115,7 @@ returning value places = record {
     type = main_type;
     is_external = true;
     parameters = [];
-    body = a_stat (Block [] (stats (Return (an_expr value) places.return_ ∷ [])) (record { first = places.open_brace; last = places.close_brace }));
+    body = a_stat (Block [] (stats (Return (an_expr value) places.return_ ∷ ending places.close_brace ∷ [])) (record { first = places.open_brace; last = places.close_brace }));
     place = places.name;
     joint_place = places.name;
   } ∷ [];

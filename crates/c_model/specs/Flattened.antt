@@ -29,7 +29,7 @@ use Rattle.model_c89.specs.TargetFrame as target_frame
 use Rattle.model_c89.specs.TargetValues as target_values
 use Rattle.model_c89.specs.TargetStatements.{perform_all}
 use Rattle.c_model.specs.WrittenType.{written_type, written_value}
-use Rattle.c_model.specs.Renamed.{Naming, IsObject, renamed, renamed_scalar, Agree, AlikeValue, AlikeValues, Follows}
+use Rattle.c_model.specs.Renamed.{Naming, IsObject, renamed, renamed_scalar, AlikeStates, AlikeValue, AlikeValues, Follows}
 
 -- an id of the unit
 abbrev pub IsDeclared : source.Core → (id : ℕ) → Type 0
@@ -67,10 +67,10 @@ AllSuit types vs = ⊥
 
 -- what a call gives: none or a value of its type, the same in the text, apart from how a bool is shown; and
 -- states that agree, with the temporaries of the calling function as they were
-pub record Returned (n : Naming) (core : source.Core) (call : ℕ) (result : CType) (before : State) (v : Value) (s : State) (w : Value) (t : State) : Type 0 where
+pub record ReturnsAlike (n : Naming) (core : source.Core) (call : ℕ) (result : CType) (before : State) (v : Value) (s : State) (w : Value) (t : State) : Type 0 where
   pub suits : (v ≡ Missing) ⊎ Suits (form_of_type result) v
   pub value : AlikeValue n core (called_value result v) (called_value result w)
-  pub states : Agree n core s t
+  pub states : AlikeStates n core s t
   pub temporaries : (number : ℕ) →
       contents_of t.memory (Local call (Named (n.temporary number))) ≡ contents_of before.memory (Local call (Named (n.temporary number)))
 
@@ -78,8 +78,8 @@ pub record Returned (n : Naming) (core : source.Core) (call : ℕ) (result : CTy
 abbrev pub SameCalls : Naming → source.Core → (call : ℕ) → source_frame.Callee → target_frame.Callee → Type 0
 SameCalls n core call calls other =
     (place null_place : Option Place) (p : Scalar) (type : CType) (types : List CType) (vs ws : List Value) (s t : State) →
-    IsTrue (call_fits (form_of_type (pointee (form_of_type type))) types) → AllSuit types vs → AlikeValues n core vs ws → Agree n core s t →
-    Follows (Returned n core call (called_type (form_of_type type)) t)
+    IsTrue (call_fits (form_of_type (pointee (form_of_type type))) types) → AllSuit types vs → AlikeValues n core vs ws → AlikeStates n core s t →
+    Follows (ReturnsAlike n core call (called_type (form_of_type type)) t)
     (calls place null_place p type types vs s)
     (other (renamed_scalar n core p) (written_value n.structure type) (map (written_value n.structure) types) ws t)
 
@@ -127,13 +127,13 @@ value_behind false g value Falls = target_values.needed (target_values.evaluate 
 value_behind is_void g value flow = ends (Undefined Kind None)
 
 -- steps, and then a value
-abbrev pub stepped : (is_void : Bool) → target_frame.Frame → (bound : ℕ) → target.Stats → target.Expr → Act Value
-stepped is_void g bound steps value = perform_all g bound steps ▷ value_behind is_void g value
+abbrev pub steps_then_value : (is_void : Bool) → target_frame.Frame → (bound : ℕ) → target.Stats → target.Expr → Act Value
+steps_then_value is_void g bound steps value = perform_all g bound steps ▷ value_behind is_void g value
 
 -- the value is the same, the states agree, and temporaries before the first are as they were
-pub record Given (n : Naming) (core : source.Core) (call first : ℕ) (before : State) (v : Value) (s : State) (w : Value) (t : State) : Type 0 where
+pub record GivesAlike (n : Naming) (core : source.Core) (call first : ℕ) (before : State) (v : Value) (s : State) (w : Value) (t : State) : Type 0 where
   pub value : AlikeValue n core v w
-  pub states : Agree n core s t
+  pub states : AlikeStates n core s t
   pub kept : (number : ℕ) → number < first →
       contents_of t.memory (Local call (Named (n.temporary number))) ≡ contents_of before.memory (Local call (Named (n.temporary number)))
 
@@ -147,6 +147,6 @@ pub record Flattens (n : Naming) (e : source.Expr) (first : ℕ) (temporaries : 
       IsTrue (expr_stands scope e) → Mirrors n scope first temporaries f g → is_void (type_of e) ≡ false →
       value_type g.names value ≡ written_value n.structure (type_of e)
   pub runs : (scope : Scope) (f : source_frame.Frame) (g : target_frame.Frame) (bound : ℕ) (s t : State) → TypedCore scope.core → Lawful n scope.core (first + length temporaries) →
-      IsTrue (is_typed e) → IsTrue (expr_stands scope e) → Mirrors n scope first temporaries f g → Agree n scope.core s t →
+      IsTrue (is_typed e) → IsTrue (expr_stands scope e) → Mirrors n scope first temporaries f g → AlikeStates n scope.core s t →
       AreReady n first temporaries g t →
-      Follows (Given n scope.core g.call first t) (wanted f e s) (stepped (is_void (type_of e)) g bound steps value t)
+      Follows (GivesAlike n scope.core g.call first t) (wanted f e s) (steps_then_value (is_void (type_of e)) g bound steps value t)

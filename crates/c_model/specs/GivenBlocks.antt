@@ -12,7 +12,7 @@ use Rattle.model_runs.specs.SourceRun as source_run
 use Rattle.model_core.specs.Program89 as target
 use Rattle.model_c89.specs.TargetStart as target_start
 use Rattle.model_c89.specs.TargetRun as target_run
-use Rattle.c_model.specs.Seen.{Seen, Same, Other, cells_of, SameBytes}
+use Rattle.c_model.specs.Seen.{Seen, SeenAs, Other, cells_or_none, SameBytes}
 use Rattle.c_model.specs.Translation.{Defines23, IsUndefined}
 
 -- a scalar of given blocks: an integer, null or a pointer into one of them
@@ -55,15 +55,15 @@ TakesArguments form vs = ⊥
 
 -- a scalar of given blocks is seen as it is, and a pointer elsewhere as Other
 abbrev pub seen : Scalar → Seen
-seen (Number value) = Same (Number value)
-seen Null = Same Null
-seen (Address (Given number) offset) = Same (Address (Given number) offset)
+seen (Number value) = SeenAs (Number value)
+seen Null = SeenAs Null
+seen (Address (Given number) offset) = SeenAs (Address (Given number) offset)
 seen scalar = Other
 
 -- each given block has the same bytes
 abbrev pub SameCells : (memory other : Memory) → Type 0
 SameCells memory other = (number : ℕ) →
-    SameBytes seen seen (cells_of (contents_of memory (Given number))) (cells_of (contents_of other (Given number)))
+    SameBytes seen seen (cells_or_none (contents_of memory (Given number))) (cells_or_none (contents_of other (Given number)))
 
 -- two results of a type: pointers that are seen as one, structures with the same bytes, and any other value
 -- as it is
@@ -89,12 +89,12 @@ abbrev pub result_form : CType → Form
 result_form type = form_of_type (result_of_form (form_of_type type))
 
 -- the runs from given blocks
-abbrev pub ended23 : (n : ℕ) → source.Core → (given : Memory) → (entry : List ℕ) → (arguments : List Value) → (world : List ℤ) → Step Value
-ended23 n core given entry arguments world =
+abbrev pub ended_from23 : (n : ℕ) → source.Core → (given : Memory) → (entry : List ℕ) → (arguments : List Value) → (world : List ℤ) → Step Value
+ended_from23 n core given entry arguments world =
     source_run.run_from n core entry arguments (start_with (given ++ source_start.start_memory core) n world)
 
-abbrev pub ended89 : (n : ℕ) → target.Program → (given : Memory) → (entry : List ℕ) → (arguments : List Value) → (world : List ℤ) → Step Value
-ended89 n program given entry arguments world =
+abbrev pub ended_from89 : (n : ℕ) → target.Program → (given : Memory) → (entry : List ℕ) → (arguments : List Value) → (world : List ℤ) → Step Value
+ended_from89 n program given entry arguments world =
     target_run.run_from n program entry arguments (start_with (given ++ target_start.start_memory program) n world)
 
 -- for every bound on turns, external function, given blocks, arguments and world the program runs as the
@@ -103,5 +103,5 @@ abbrev pub SameFrom : source.Core → target.Program → Type 0
 SameFrom core program =
     (n : ℕ) (entry : List ℕ) (type : CType) (given : Memory) (arguments : List Value) (world : List ℤ) →
     Defines23 core entry type → AreGiven given → TakesArguments (form_of_type type) arguments →
-    IsUndefined (run_of (ended23 n core given entry arguments world))
-    ⊎ SameStep (result_form type) (ended23 n core given entry arguments world) (ended89 n program given entry arguments world)
+    IsUndefined (run_of (ended_from23 n core given entry arguments world))
+    ⊎ SameStep (result_form type) (ended_from23 n core given entry arguments world) (ended_from89 n program given entry arguments world)

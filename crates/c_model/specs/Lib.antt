@@ -22,5 +22,6 @@ pub mod ExampleOrder
 pub mod ExampleFlattened
 pub mod ExamplePlaces
 pub mod ExampleRealloc
+pub mod ExampleStrings
 pub mod FirstUnit
 pub mod FirstRow

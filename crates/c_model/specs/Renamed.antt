@@ -7,7 +7,7 @@ use Rattle.model_core.specs.Core as source
 use Rattle.model_runs.specs.Memory.{Numbered, Named, Block, Global, Local, Heap, HandleOf, Outside, Scalar, Address, Code, Value, Missing, Single, StructureValue, Cell, Contents, contents_of}
 use Rattle.model_runs.specs.Loads.{stored_at}
 use Rattle.model_runs.specs.Run.{State, Step, Goes, Ends, Undefined}
-use Rattle.c_model.specs.Seen.{Seen, Same, SameBytes}
+use Rattle.c_model.specs.Seen.{Seen, SeenAs, SameBytes}
 
 -- the names of objects and functions, of structures and their members, and of temporaries
 pub record Naming : Type 0 where
@@ -43,7 +43,7 @@ renamed_scalar n core (Code (Numbered id)) = Code (Named (n.declared id))
 renamed_scalar n core scalar = scalar
 
 abbrev pub seen_renamed : Naming → source.Core → Scalar → Seen
-seen_renamed n core scalar = Same (renamed_scalar n core scalar)
+seen_renamed n core scalar = SeenAs (renamed_scalar n core scalar)
 
 -- an object, and an external object, of the unit
 abbrev pub IsObject : source.Core → (id : ℕ) → Type 0
@@ -70,7 +70,7 @@ IsKnownScalar core scalar = Unit {0}
 
 -- the same bytes under the names of the text
 pub record AlikeBytes (n : Naming) (core : source.Core) (cells others : List Cell) : Type 0 where
-  pub same : SameBytes (seen_renamed n core) Same cells others
+  pub same : SameBytes (seen_renamed n core) SeenAs cells others
   pub known : (offset size : ℕ) (scalar : Scalar) → stored_at cells offset size ≡ Some scalar → IsKnownScalar core scalar
 
 abbrev pub is_heap : Block → Bool
@@ -88,7 +88,7 @@ pub record AlikeContents (n : Naming) (core : source.Core) (block : Block) (cont
   pub bytes : AlikeBytes n core contents.cells other.cells
 
 -- the text's state is the unit's, apart from names, and from blocks that the unit doesn't have
-pub record Agree (n : Naming) (core : source.Core) (s t : State) : Type 0 where
+pub record AlikeStates (n : Naming) (core : source.Core) (s t : State) : Type 0 where
   pub turns : s.turns ≡ t.turns
   pub world : s.world ≡ t.world
   pub calls : s.calls ≡ t.calls

@@ -6,12 +6,12 @@ use Rattle.model_runs.specs.Loads.{stored_at, is_zero_at}
 
 -- a scalar that both can name, as it is; any other one, as Other
 pub data Seen : Type 0 where
-  Same : (scalar : Scalar) → Seen
+  SeenAs : (scalar : Scalar) → Seen
   Other : Seen
 
-abbrev pub cells_of : Option Contents → List Cell
-cells_of None = []
-cells_of (Some contents) = contents.cells
+abbrev pub cells_or_none : Option Contents → List Cell
+cells_or_none None = []
+cells_or_none (Some contents) = contents.cells
 
 -- the same bytes, where scalars are seen so on either side: what is stored at each offset and size, of one
 -- byte at least, and which bytes are zero

@@ -8,7 +8,7 @@ use Rattle.model_core.specs.Core.{Core}
 use Rattle.c_model.specs.Seen.{SameBytes}
 use Rattle.c_model.specs.ExportedObjects.{shared23, begins23}
 use Rattle.c_model.specs.Translation.{Defines23, Holds23, IsUndefined}
-use Rattle.c_model.specs.GivenBlocks.{AreGiven, TakesArguments, SameStep, result_form, ended23}
+use Rattle.c_model.specs.GivenBlocks.{AreGiven, TakesArguments, SameStep, result_form, ended_from23}
 
 -- the other runs as the first, for every bound on turns, external function, given blocks, arguments and world,
 -- wherever the first one's run has a meaning
@@ -16,8 +16,8 @@ abbrev pub SameRuns : Core → Core → Type 0
 SameRuns core other =
     (n : ℕ) (entry : List ℕ) (type : CType) (given : Memory) (arguments : List Value) (world : List ℤ) →
     Defines23 core entry type → AreGiven given → TakesArguments (form_of_type type) arguments →
-    IsUndefined (run_of (ended23 n core given entry arguments world))
-    ⊎ SameStep (result_form type) (ended23 n core given entry arguments world) (ended23 n other given entry arguments world)
+    IsUndefined (run_of (ended_from23 n core given entry arguments world))
+    ⊎ SameStep (result_form type) (ended_from23 n core given entry arguments world) (ended_from23 n other given entry arguments world)
 
 -- one defines what the other does, with the same types
 abbrev pub Alike : (List ℕ → CType → Type 0) → (List ℕ → CType → Type 0) → Type 0

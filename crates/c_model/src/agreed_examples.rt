@@ -13,8 +13,9 @@ ghost use Rattle.model_c89.specs.Typing89.{is_typed};
 ghost use Rattle.model_c89.specs.TargetRun.{run89};
 ghost use Rattle.c_model.specs.Examples.{returned};
 ghost use Rattle.c_model.specs.ExampleAgreed.{zeros_read_as_long, zeros_written, seven_as_bool, side_by_side, one_in_another, without_order, with_order};
-ghost use Rattle.c_model.specs.ExamplePlaces.{two_at_one_place, added_behind_call, compared_functions, compared_pointers};
+ghost use Rattle.c_model.specs.ExamplePlaces.{two_at_one_place, operation_at_lvalue, added_behind_call, compared_functions, compared_pointers};
 ghost use Rattle.c_model.specs.ExampleRealloc.{resizes, resizes_written, resizes_no_more, leaves};
+ghost use Rattle.c_model.specs.ExampleStrings.{longer_array, literal, reads_element, reads_int, reads_element89, reads_int89};
 ghost use Rattle.c_model.specs.Translation.{Same};
 
 /// Zeros of static objects read as zero of any size, whether they are written or not.
@@ -23,6 +24,24 @@ pub fn static_zeros_agree()
     ensures unit { run23 100 zeros_read_as_long (codes "main") [] [] ≡ returned [] 1 }
     ensures typed_text { is_typed zeros_written ≡ true }
     ensures text { run89 100 zeros_written (codes "main") [] [] ≡ returned [] 1 }
+{}
+
+/// Behind the bytes of a string its block reads as zero of any size, that of an array and that of a literal, in the
+/// unit and in its text.
+pub fn string_reads_zero_behind_its_bytes()
+    ensures typed { is_typed_core (reads_element longer_array 2) ≡ true }
+    ensures last_byte { run23 100 (reads_element longer_array 1) (codes "main") [] [] ≡ returned [] 98 }
+    ensures zero { run23 100 (reads_element longer_array 2) (codes "main") [] [] ≡ returned [] 0 }
+    ensures last_zero { run23 100 (reads_element longer_array 7) (codes "main") [] [] ≡ returned [] 0 }
+    ensures int_of_zeros { run23 100 (reads_int longer_array) (codes "main") [] [] ≡ returned [] 0 }
+    ensures typed_literal { is_typed_core (reads_element literal 2) ≡ true }
+    ensures literal { run23 100 (reads_element literal 2) (codes "main") [] [] ≡ returned [] 0 }
+    ensures typed_text { is_typed (reads_element89 8 2) ≡ true }
+    ensures text_last_byte { run89 100 (reads_element89 8 1) (codes "main") [] [] ≡ returned [] 98 }
+    ensures text_zero { run89 100 (reads_element89 8 2) (codes "main") [] [] ≡ returned [] 0 }
+    ensures text_last_zero { run89 100 (reads_element89 8 7) (codes "main") [] [] ≡ returned [] 0 }
+    ensures text_int_of_zeros { run89 100 (reads_int89 8) (codes "main") [] [] ≡ returned [] 0 }
+    ensures text_literal { run89 100 (reads_element89 3 2) (codes "main") [] [] ≡ returned [] 0 }
 {}
 
 /// What a call with result bool gives is 0 or 1, also where a byte of the bool was 7.
@@ -59,6 +78,12 @@ pub fn some_zero_cell_is_enough()
 pub fn places_tell_lvalues_apart()
     ensures parts { is_typed_core two_at_one_place ≡ true }
     ensures places { TypedCore two_at_one_place → ⊥ }
+{}
+
+/// No operation of a typed core stands where an lvalue does.
+pub fn places_tell_operations_from_lvalues()
+    ensures parts { is_typed_core operation_at_lvalue ≡ true }
+    ensures places { TypedCore operation_at_lvalue → ⊥ }
 {}
 
 /// A compound assignment loads behind its right side.

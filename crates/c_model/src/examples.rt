@@ -5,10 +5,11 @@ ghost use Rattle.std.specs.List.{list_all};
 ghost use Rattle.model_runs.specs.Memory.{Heap};
 ghost use Rattle.model_runs.specs.SourceRun.{run23, ended23};
 ghost use Rattle.model_core.specs.TypedCore.{is_typed_core};
-ghost use Rattle.c_model.specs.Examples.{loop_with_defer, written_by_loop, deferred_assignment, hidden_name, load_before_call, function_literal, no_value, without_value, returned, with_nothing, call_of_nothing, chosen_nothing, nothing_is_used};
+ghost use Rattle.c_model.specs.Examples.{loop_with_defer, written_by_loop, deferred_assignment, hidden_name, load_before_call, function_literal};
+ghost use Rattle.c_model.specs.Examples.{no_value, without_value, returned, with_nothing, call_of_nothing, chosen_nothing, nothing_is_used};
 ghost use Rattle.model_c89.specs.Typing89.{is_typed};
 ghost use Rattle.model_c89.specs.TargetRun.{run89};
-ghost use Rattle.c_model.specs.ExampleTexts.{writes_bytes, prints_node, printed};
+ghost use Rattle.c_model.specs.ExampleTexts.{writes_bytes, prints_node, node_printed};
 ghost use Rattle.c_model.specs.ExampleList.{list_of_nodes, with_memory, without_memory};
 ghost use Rattle.c_model.specs.ExampleReleases.{freed_in_loop, dead_in_loop, no_loop, freed_twice, released_twice, nothing_to_free, never_freed, asks_for_owner};
 ghost use Rattle.model_runs.specs.Ownership.{Misuse, left_by, keeps_promise};
@@ -106,5 +107,5 @@ pub fn text_writes_bytes()
 /// A text that takes a node from the heap, prints it and frees it, and is typed.
 pub fn text_prints_node()
     ensures typed { is_typed prints_node ≡ true }
-    ensures run { run89 100 prints_node (codes "main") [] (pos 1 ∷ pos 2 ∷ []) ≡ printed }
+    ensures run { run89 100 prints_node (codes "main") [] (pos 1 ∷ pos 2 ∷ []) ≡ node_printed }
 {}

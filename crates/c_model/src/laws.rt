@@ -11,7 +11,8 @@ ghost use Rattle.model_tokens.specs.declared.tokens.CTok.{CTok};
 ghost use Rattle.c_model.specs.FirstUnit.{IsUnit};
 ghost use Rattle.model_tokens.specs.PpTokens.{PpToken, tokens_of};
 ghost use Rattle.model_tokens.specs.CTokens.{c_tokens_of};
-ghost use Rattle.c_model.specs.FirstRow.{at, seven_text, seven_tokens, seven_core, seven_program, seven_written, overflow_tokens, overflow_core, nine_tokens, nine_core};
+ghost use Rattle.c_model.specs.ExampleParts.{at_column};
+ghost use Rattle.c_model.specs.FirstRow.{seven_text, seven_tokens, seven_core, seven_program, seven_written, overflow_tokens, overflow_core, nine_tokens, nine_core};
 
 use model_types::outcomes::Cause;
 
@@ -49,5 +50,5 @@ pub fn first_unit_is_typed()
 /// A sum past the greatest int is a unit, and its run is undefined at the operator.
 pub fn overflow_is_undefined()
     ensures unit { IsUnit overflow_tokens overflow_core }
-    ensures run { (world : List ℤ) → run23 1 overflow_core (codes "main") [] world ≡ record { events = []; moves = []; ending = Undefined Cause.Overflow (Some (at 36 8)) } }
+    ensures run { (world : List ℤ) → run23 1 overflow_core (codes "main") [] world ≡ record { events = []; moves = []; ending = Undefined Cause.Overflow (Some (at_column 36 8)) } }
 {}

@@ -34,5 +34,5 @@ pub fn lists_stand_in_order()
     ensures order { is_in_order (standing (1 ∷ 3 ∷ []) (2 ∷ 4 ∷ []) (7 ∷ 9 ∷ [])) ≡ true }
     ensures objects { is_in_order (standing (3 ∷ 1 ∷ []) (2 ∷ 4 ∷ []) (7 ∷ 9 ∷ [])) ≡ false }
     ensures functions { is_in_order (standing (1 ∷ 3 ∷ []) (4 ∷ 2 ∷ []) (7 ∷ 9 ∷ [])) ≡ false }
-    ensures named { is_in_order (standing (1 ∷ 3 ∷ []) (2 ∷ 4 ∷ []) (7 ∷ 7 ∷ [])) ≡ false }
+    ensures named { is_in_order (standing (1 ∷ 3 ∷ []) (2 ∷ 4 ∷ []) (9 ∷ 7 ∷ [])) ≡ false }
 {}

@@ -11,33 +11,34 @@ ghost use Rattle.model_runs.specs.Stores.{store};
 ghost use Rattle.model_runs.specs.Applied.{applied};
 ghost use Rattle.model_runs.specs.Run.{Returned, Undefined};
 ghost use Rattle.model_runs.specs.SourceStart.{text_contents};
-ghost use Rattle.c_model.specs.ExampleMemory.{int_shape, char_shape, block, holding, number, with_five, zeros_with_seven, closed_once, closed_twice, opened, closed};
+ghost use Rattle.c_model.specs.ExampleParts.{int_value};
+ghost use Rattle.c_model.specs.ExampleMemory.{int_shape, char_shape, heap_block, holding, with_five, zeros_with_seven, closed_once, closed_twice, opened, closed};
 
 /// A load wants what was stored there, of its size and kind, in a block that lives.
 pub fn loads_want_what_was_stored()
-    ensures same { load with_five int_shape block (pos 0) ≡ Ok (number 5) }
-    ensures unsigned { load with_five (IntegerShape basic.Unsigned) block (pos 0) ≡ Ok (number 5) }
-    ensures smaller { load with_five char_shape block (pos 0) ≡ Err cause.Kind }
-    ensures behind { load with_five int_shape block (pos 4) ≡ Err cause.Uninitialised }
-    ensures across { load with_five int_shape block (pos 2) ≡ Err cause.Kind }
-    ensures before { load with_five int_shape block (negsuc 0) ≡ Err cause.Outside }
-    ensures past { load with_five int_shape block (pos 5) ≡ Err cause.Outside }
+    ensures same { load with_five int_shape heap_block (pos 0) ≡ Ok (int_value 5) }
+    ensures unsigned { load with_five (IntegerShape basic.Unsigned) heap_block (pos 0) ≡ Ok (int_value 5) }
+    ensures smaller { load with_five char_shape heap_block (pos 0) ≡ Err cause.Kind }
+    ensures behind { load with_five int_shape heap_block (pos 4) ≡ Err cause.Uninitialised }
+    ensures across { load with_five int_shape heap_block (pos 2) ≡ Err cause.Kind }
+    ensures before { load with_five int_shape heap_block (negsuc 0) ≡ Err cause.Outside }
+    ensures past { load with_five int_shape heap_block (pos 5) ≡ Err cause.Outside }
     ensures dead { load with_five int_shape (Heap 2) (pos 0) ≡ Err cause.Dead }
 {}
 
 /// Zeros read as 0 and null of any size, as far as nothing else was stored there.
 pub fn zeros_read_as_zero()
-    ensures whole { load (holding (zeroed 8)) (IntegerShape basic.Long) block (pos 0) ≡ Ok (number 0) }
-    ensures pointer { load (holding (zeroed 8)) PointerShape block (pos 0) ≡ Ok (Single Null) }
-    ensures char { load zeros_with_seven char_shape block (pos 1) ≡ Ok (number 7) }
-    ensures before { load zeros_with_seven char_shape block (pos 0) ≡ Ok (number 0) }
-    ensures behind { load zeros_with_seven int_shape block (pos 4) ≡ Ok (number 0) }
-    ensures across { load zeros_with_seven int_shape block (pos 0) ≡ Err cause.Kind }
+    ensures whole { load (holding (zeroed 8)) (IntegerShape basic.Long) heap_block (pos 0) ≡ Ok (int_value 0) }
+    ensures pointer { load (holding (zeroed 8)) PointerShape heap_block (pos 0) ≡ Ok (Single Null) }
+    ensures char { load zeros_with_seven char_shape heap_block (pos 1) ≡ Ok (int_value 7) }
+    ensures before { load zeros_with_seven char_shape heap_block (pos 0) ≡ Ok (int_value 0) }
+    ensures behind { load zeros_with_seven int_shape heap_block (pos 4) ≡ Ok (int_value 0) }
+    ensures across { load zeros_with_seven int_shape heap_block (pos 0) ≡ Err cause.Kind }
 {}
 
 /// A string literal isn't written to.
 pub fn string_is_read_only()
-    ensures { store (holding (text_contents (97 ∷ []))) char_shape block (pos 0) (number 98) ≡ Err cause.ReadOnly }
+    ensures { store (holding (text_contents (97 ∷ []))) char_shape heap_block (pos 0) (int_value 98) ≡ Err cause.ReadOnly }
 {}
 
 /// Pointers move by elements; there is no sum with null, and no order of different blocks.
@@ -51,6 +52,6 @@ pub fn pointers_move_by_elements()
 
 /// A file that is opened is closed once; closing it again is a bad release, and no event.
 pub fn file_is_closed_once()
-    ensures once { closed_once ≡ record { events = opened ∷ closed ∷ []; moves = []; ending = Returned (number 0) } }
+    ensures once { closed_once ≡ record { events = opened ∷ closed ∷ []; moves = []; ending = Returned (int_value 0) } }
     ensures twice { closed_twice ≡ record { events = opened ∷ closed ∷ []; moves = []; ending = Undefined cause.BadRelease None } }
 {}

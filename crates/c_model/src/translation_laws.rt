@@ -15,7 +15,8 @@ ghost use Rattle.c_model.specs.TwoUnits.{SameRuns, SameExternals};
 ghost use Rattle.c_model.specs.Renamed.{provisional};
 ghost use Rattle.c_model.specs.Flattened.{Flattens};
 ghost use Rattle.c_model.specs.ExampleFlattened.{sum, sum89};
-ghost use Rattle.c_model.specs.ExampleExported.{exports_structure, exports_structures, structure_written, one_structure_written, long89};
+ghost use Rattle.c_model.specs.ExampleExported.{exports_structure, exports_structures, structure_written, one_structure_written};
+ghost use Rattle.c_model.specs.ExampleTexts.{long89};
 ghost use Rattle.c_model.specs.ExampleGiven.{bumps, bumps_written, bumped, bumped89, exports_array, array_written, only_zeros};
 
 /// What is the same from given blocks is the same.

@@ -9,7 +9,14 @@ ghost use Rattle.model_core.specs.CoreTypes.{int_type, plain, pointer_to};
 ghost use Rattle.model_core.specs.Core.{Convert, no_initials};
 ghost use Rattle.c_model.specs.ExampleParts.{no_mark, number, int_variable, load, function_type};
 ghost use Rattle.c_model.specs.ExampleList.{implied, const_int};
-ghost use Rattle.c_model.specs.ExampleFaults.{array_of, one_number_twice, declared_again_inside, used_out_of_scope, parameter_without_object, address_not_noted, value_for_no_part, value_elsewhere, two_values_for_one_part, values_out_of_order, values_in_order, part_over_whole, whole_value, int_value_at, call_in_constant, moved_null, object_of, with_structure, structure_in_itself, declared_function, variadic_definition, string_without_room, internal_undefined, malloc_without_owner, defined_abort, const_member_inside, member_assigned, valued, pointer, compound, one_value, first_of_two, empty_pointer, array_gains_const, array_in_its_initializer, outer89, function89, declaring89, main89, object89, returning89, outside89, f89, p89, v89, joined89, started89, char_pointer89, null89};
+ghost use Rattle.c_model.specs.ExampleFaults.{array_of, one_number_twice, declared_again_inside, used_out_of_scope, parameter_without_object};
+ghost use Rattle.c_model.specs.ExampleFaults.{address_not_noted, value_for_no_part, value_elsewhere, two_values_for_one_part, values_out_of_order};
+ghost use Rattle.c_model.specs.ExampleFaults.{values_in_order, part_over_whole, whole_value, int_value_at, call_in_constant, moved_null, object_of};
+ghost use Rattle.c_model.specs.ExampleFaults.{with_structure, structure_in_itself, declared_function, variadic_definition, string_without_room};
+ghost use Rattle.c_model.specs.ExampleFaults.{internal_undefined, malloc_without_owner, defined_abort, const_member_inside, member_assigned, valued};
+ghost use Rattle.c_model.specs.ExampleFaults.{pointer, compound, one_value, first_of_two, empty_pointer, array_gains_const, array_in_its_initializer};
+ghost use Rattle.c_model.specs.ExampleFaults.{outer89, function89, declaring89, main89, object89, returning89, outside89, f89, p89, v89, joined89};
+ghost use Rattle.c_model.specs.ExampleFaults.{started89, char_pointer89, null89};
 ghost use Rattle.model_core.specs.TypedCore.{is_typed_core};
 ghost use Rattle.model_core.specs.CoveredObjects.{Covers};
 ghost use Rattle.model_core.specs.SameTypes.{is_null_constant};
@@ -17,7 +24,7 @@ ghost use Rattle.model_core.specs.StaticValues.{gives_null};
 ghost use Rattle.model_core.specs.Program89.{Plainly, Static, Extern, Binary, Cast, Call, Logic, no_exprs};
 ghost use Rattle.model_types.specs.declared.operators.LogicOp.TheVariants.{And};
 ghost use Rattle.model_core.specs.Types89 as type89;
-ghost use Rattle.c_model.specs.FirstRow.{int_number};
+ghost use Rattle.c_model.specs.ExampleTexts.{number89};
 ghost use Rattle.model_c89.specs.Typing89 as text;
 
 /// Each object has a number of its own, and is used in its scope.
@@ -112,8 +119,8 @@ pub fn types_of_texts_are_asked()
     ensures joined { text.is_typed (returning89 outside89 (joined89 (Cast (type89.Pointer false type89.int_type) v89))) ≡ true }
     ensures void_joined { text.is_typed (returning89 outside89 (joined89 v89)) ≡ false }
     ensures null { text.is_typed (started89 char_pointer89 null89) ≡ true }
-    ensures moved_null { text.is_typed (started89 char_pointer89 (Binary Add null89 (int_number 1))) ≡ false }
-    ensures constant { text.is_typed (started89 type89.int_type (Logic And (int_number 0) (int_number 1))) ≡ true }
-    ensures call { text.is_typed (started89 type89.int_type (Logic And (int_number 0) (Call f89 no_exprs))) ≡ false }
-    ensures void_object { text.is_typed (returning89 (outer89 Extern (type89.Based false type89.Void) (codes "x") None ∷ []) (int_number 0)) ≡ false }
+    ensures moved_null { text.is_typed (started89 char_pointer89 (Binary Add null89 (number89 1))) ≡ false }
+    ensures constant { text.is_typed (started89 type89.int_type (Logic And (number89 0) (number89 1))) ≡ true }
+    ensures call { text.is_typed (started89 type89.int_type (Logic And (number89 0) (Call f89 no_exprs))) ≡ false }
+    ensures void_object { text.is_typed (returning89 (outer89 Extern (type89.Based false type89.Void) (codes "x") None ∷ []) (number89 0)) ≡ false }
 {}

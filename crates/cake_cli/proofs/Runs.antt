@@ -14,7 +14,7 @@ use Rattle.model_core.specs.Types89.{Type89, int_type as int89}
 use Rattle.model_core.specs.CoreTypes.{int_type as int23, type_of, binary_type as binary23}
 use Rattle.model_runs.specs.Memory.{Value, Missing, Single, StructureValue, Scalar}
 use Rattle.model_runs.specs.Applied.{applied}
-use Rattle.model_runs.specs.Run.{Undefined, State, Step, Goes, Ends, follow, unless_undefined, Act, ◌▷◌, just, used, scalar_of, start_with, run_of, answer_of, Gives}
+use Rattle.model_runs.specs.Run.{Undefined, State, Step, Goes, Ends, follow, unless_undefined, Act, ◌▷◌, just, used, scalar_of, start_with, run_of, answer_of, Gives, then_do}
 use Rattle.model_core.specs.Core as source
 use Rattle.model_runs.specs.SourceFrame as source_frame
 use Rattle.model_core.specs.SourceMarks.{at_mark, expr_mark}
@@ -37,7 +37,7 @@ use Rattle.model_c89.specs.TypedParts89.{takes}
 use Rattle.model_c89.specs.TypedStat89.{has_type}
 use Rattle.model_c89.specs.Typing89.{Typed}
 use Rattle.model_c89.specs.Written89.{WrittenExpr}
-use Rattle.c_model.specs.FirstUnit.{UnitPlaces, mark_at, main_type, returning}
+use Rattle.c_model.specs.FirstUnit.{UnitPlaces, mark_at, main_type, ending, returning}
 use Rattle.model_c89.specs.Spelling89.{canonical}
 use Rattle.model_c89.specs.Reading89.{Reads89}
 use Rattle.model_c89.specs.Flat89.{holds_call}
@@ -140,7 +140,7 @@ done_in_int BitAnd x y s = refl
 done_in_int BitXor x y s = refl
 done_in_int BitOr x y s = refl
 
-takes_ints : (structures : List target.Structure) (op : BinOp) (m n : Bool) → takes structures op m n int89 int89 ≡ true
+takes_ints : (structures : List target.Structure89) (op : BinOp) (m n : Bool) → takes structures op m n int89 int89 ≡ true
 takes_ints structures Mul m n = refl
 takes_ints structures Div m n = refl
 takes_ints structures Rem m n = refl
@@ -171,7 +171,7 @@ is_written_int names (Binary' op p a q b mark) =
     ∙ ap decayed (written_is_int op)
 
 -- an operation of the unit, and that of the text
-applied_same : (f : source_frame.Frame) (g : target_frame.Frame) (op : BinOp) (mark : Mark) (t u : CType) (t' u' : Type89) → t ≡ int23 → u ≡ int23 → t' ≡ int89 → u' ≡ int89 → (x y : Scalar) (s : State) → Follows ((source_operations.operated_on f op mark t u x y ▷ operands.single) s) ((target_operations.operated_on g op t' u' x y ▷ operands.single) s)
+applied_same : (f : source_frame.Frame) (g : target_frame.Frame) (op : BinOp) (mark : Mark) (t u : CType) (t' u' : Type89) → t ≡ int23 → u ≡ int23 → t' ≡ int89 → u' ≡ int89 → (x y : Scalar) (s : State) → Follows ((source_operations.operated_on f op mark t u x y ▷ operands.just_scalar) s) ((target_operations.operated_on g op t' u' x y ▷ operands.just_scalar) s)
 applied_same f g op mark t u t' u' is_t is_u is_t' is_u' x y s =
     rw (is_t, is_u, is_t', is_u', done_in_int op x y s)
     (follow_same (unless_undefined (at_mark mark) (applied op Int 1 x y) s) (unless_undefined None (applied op Int 1 x y) s) _ _ (unless_undefined_same (at_mark mark) (applied op Int 1 x y) s) (λ z s1. inr refl))
@@ -200,9 +200,22 @@ module _ (f : source_frame.Frame) (g : target_frame.Frame) where
         (follow_same (source_values.evaluate f (expr_of e) s) (target_values.evaluate g (target_of e) s) _ _ (value_same e s) (used_same (at_mark (expr_mark (expr_of e)))))
         (λ v s1. inr (ap (λ w. Goes (Gives w) s1) (ap (λ r. target_operations.value_as (value_type g.names (target_of e)) r v) result ∙ as_it_is (value_type g.names (target_of e)) v (is_written_int g.names e))))
 
-    all_same : (s : State) → Follows (source_statements.perform_all f bound (source.more_stats (source.Return (source.an_expr (expr_of e)) place) source.no_stats) s) (target_statements.perform_all g bound (target.more_stats (target.Return (target_of e)) target.no_stats) s)
-    all_same s =
-        follow_same (source_statements.perform f bound (source.Return (source.an_expr (expr_of e)) place) s) (target_statements.perform g bound (target.Return (target_of e)) s) _ _ (returned_same s) (λ flow s1. inr refl)
+    -- what stands behind the return isn't reached
+    behind_return : (rest : source.Stats) (step : Step Value) →
+        follow (follow step (λ v. just (Gives v))) (λ flow. then_do flow (source_statements.perform_all f bound rest))
+        ≡ follow (follow step (λ v. just (Gives v))) (λ flow. then_do flow (source_statements.perform_all f bound source.no_stats))
+    behind_return rest (Goes v s) = refl
+    behind_return rest (Ends cause s) = refl
+
+    all_same : (rest : source.Stats) (s : State) →
+        Follows
+        (source_statements.perform_all f bound (source.more_stats (source.Return (source.an_expr (expr_of e)) place) rest) s)
+        (target_statements.perform_all g bound (target.more_stats (target.Return (target_of e)) target.no_stats) s)
+    all_same rest s =
+        subst
+        (λ step. Follows step (target_statements.perform_all g bound (target.more_stats (target.Return (target_of e)) target.no_stats) s))
+        (sym (behind_return rest (source_values.needed (expr_of e) (source_values.evaluate f (expr_of e)) s)))
+        (follow_same (source_statements.perform f bound (source.Return (source.an_expr (expr_of e)) place) s) (target_statements.perform g bound (target.Return (target_of e)) s) _ _ (returned_same s) (λ flow s1. inr refl))
 
 run_same : (l r : Step Value) → Follows l r → IsUndefined (run_of l) ⊎ (run_of r ≡ run_of l)
 unfolding Fails
@@ -223,7 +236,7 @@ module _ (e : Expr) (places : UnitPlaces) where
     type = main_type;
     is_external = true;
     parameters = [];
-    body = source.a_stat (source.Block [] (source.more_stats (source.Return (source.an_expr (expr_of e)) places.return_) source.no_stats) (record { first = places.open_brace; last = places.close_brace }));
+    body = source.a_stat (source.Block [] (source.more_stats (source.Return (source.an_expr (expr_of e)) places.return_) (source.more_stats (ending places.close_brace) source.no_stats)) (record { first = places.open_brace; last = places.close_brace }));
     place = places.name;
     joint_place = places.name;
   }
@@ -231,10 +244,10 @@ module _ (e : Expr) (places : UnitPlaces) where
   abbrev main89 : target.Function
   main89 = main_of (target_of e)
 
-  entered_same : (f : source_frame.Frame) (g : target_frame.Frame) (bound : ℕ) → g.result ≡ int89 → (s : State) → Follows (follow (follow (source_statements.perform_all f bound (source.more_stats (source.Return (source.an_expr (expr_of e)) places.return_) source.no_stats) s) (λ flow. just flow)) (λ flow. just (answer_of flow))) (follow (follow (target_statements.perform_all g bound (target.more_stats (target.Return (target_of e)) target.no_stats) s) (λ flow. just flow)) (λ flow. just (answer_of flow)))
+  entered_same : (f : source_frame.Frame) (g : target_frame.Frame) (bound : ℕ) → g.result ≡ int89 → (s : State) → Follows (follow (follow (source_statements.perform_all f bound (source.more_stats (source.Return (source.an_expr (expr_of e)) places.return_) (source.more_stats (ending places.close_brace) source.no_stats)) s) (λ flow. just flow)) (λ flow. just (answer_of flow))) (follow (follow (target_statements.perform_all g bound (target.more_stats (target.Return (target_of e)) target.no_stats) s) (λ flow. just flow)) (λ flow. just (answer_of flow)))
   entered_same f g bound result s =
       follow_same _ _ _ _
-      (follow_same (source_statements.perform_all f bound (source.more_stats (source.Return (source.an_expr (expr_of e)) places.return_) source.no_stats) s) (target_statements.perform_all g bound (target.more_stats (target.Return (target_of e)) target.no_stats) s) _ _ (all_same f g bound e places.return_ result s) (λ flow s1. inr refl))
+      (follow_same (source_statements.perform_all f bound (source.more_stats (source.Return (source.an_expr (expr_of e)) places.return_) (source.more_stats (ending places.close_brace) source.no_stats)) s) (target_statements.perform_all g bound (target.more_stats (target.Return (target_of e)) target.no_stats) s) _ _ (all_same f g bound e places.return_ result (source.more_stats (ending places.close_brace) source.no_stats) s) (λ flow s1. inr refl))
       (λ flow s1. inr refl)
 
   call_same : (known : Bool) (n : ℕ) (s : State) → Follows (source_run.call_entry unit n (if known then Some main23 else None) [] s) (target_run.call_entry (program_of (target_of e)) n (if known then Some main89 else None) [] s)

@@ -144,12 +144,12 @@ outers_spelled text os (reads_no_outer t is) = is
 outers_spelled text os (reads_outers t o others x y p r is) =
     is ∙ ap (λ z. z ++ y) (outer_spelled x o p) ∙ ap (λ z. outer_text o ++ z) (outers_spelled y others r)
 
-structure_spelled : (text : List ℕ) (s : tree.Structure) → ReadsStructure text s → text ≡ structure_text s
+structure_spelled : (text : List ℕ) (s : tree.Structure89) → ReadsStructure text s → text ≡ structure_text s
 structure_spelled text s (reads_tag t name is) = is
 structure_spelled text s (reads_members t name d ds x r is) =
     is ∙ ap (λ z. codes "struct " ++ (name ++ (codes " {\n" ++ (z ++ codes "};\n")))) (objects_spelled 1 x (d ∷ ds) r)
 
-structures_spelled : (text : List ℕ) (ss : List tree.Structure) → ReadsStructures text ss → text ≡ structures_text ss
+structures_spelled : (text : List ℕ) (ss : List tree.Structure89) → ReadsStructures text ss → text ≡ structures_text ss
 structures_spelled text ss (reads_no_structure t is) = is
 structures_spelled text ss (reads_structures t s others x y p r is) =
     is ∙ ap (λ z. z ++ y) (structure_spelled x s p) ∙ ap (λ z. structure_text s ++ z) (structures_spelled y others r)

@@ -107,11 +107,11 @@ outers_read : (os : List tree.Outer) → ReadsOuters (outers_text os) os
 outers_read [] = reads_no_outer [] refl
 outers_read (o ∷ os) = reads_outers _ o os (outer_text o) (outers_text os) (outer_reads o) (outers_read os) refl
 
-structure_reads : (s : tree.Structure) → ReadsStructure (structure_text s) s
+structure_reads : (s : tree.Structure89) → ReadsStructure (structure_text s) s
 structure_reads (tree.Tag name) = reads_tag _ name refl
 structure_reads (tree.Members name d ds) = reads_members _ name d ds (objects_text 1 (d ∷ ds)) (objects_read 1 (d ∷ ds)) refl
 
-structures_read : (ss : List tree.Structure) → ReadsStructures (structures_text ss) ss
+structures_read : (ss : List tree.Structure89) → ReadsStructures (structures_text ss) ss
 structures_read [] = reads_no_structure [] refl
 structures_read (s ∷ ss) = reads_structures _ s ss (structure_text s) (structures_text ss) (structure_reads s) (structures_read ss) refl
 

@@ -9,7 +9,7 @@ use Rattle.model_c89.specs.Spelling89.{value_text, outer_text, outers_text, stru
 use Rattle.model_c89.specs.Signs89.{base_text, storage_text, storage_of}
 use Rattle.model_core.specs.Types89.{Base, Void, Char, SignedChar, UnsignedChar, Short, UnsignedShort, Int, UnsignedInt, Long, UnsignedLong, Struct, Type89, Based, Pointer, Array, Function as FunctionType}
 use Rattle.model_c89.specs.Written89.{WrittenType, WrittenBase, WrittenOuters, WrittenStructures, WrittenFunctions}
-use Rattle.model_core.specs.Program89.{Declaration, Storage, Plainly, Static, Extern, Init, Outer, Structure, Tag, Members, Function, Program}
+use Rattle.model_core.specs.Program89.{Declaration, Storage, Plainly, Static, Extern, Init, Outer, Structure89, Tag, Members, Function, Program}
 use Rattle.model_c89.specs.Reading89.{Reads89}
 use Rattle.model_c89.proofs.Respelled.{program_spelled}
 use Rattle.model_c89.proofs.UniqueWords.{strip, front, behind, front_is, behind_is, begins-push}
@@ -120,32 +120,32 @@ behind_tag (Some text) = is_there (strip (codes ";") (behind is_word_byte text))
 abbrev is_structure : List ℕ → Bool
 is_structure text = behind_tag (strip (codes "struct ") text)
 
-abbrev structure_tail : Structure → List ℕ → List ℕ
+abbrev structure_tail : Structure89 → List ℕ → List ℕ
 structure_tail (Tag name) x = codes ";\n" ++ x
 structure_tail (Members name d ds) x = codes " {\n" ++ (objects_text 1 (d ∷ ds) ++ (codes "};\n" ++ x))
 
-abbrev tag_of : Structure → List ℕ
+abbrev tag_of : Structure89 → List ℕ
 tag_of (Tag name) = name
 tag_of (Members name d ds) = name
 
-structure_whole : (s : Structure) (x : List ℕ) → structure_text s ++ x ≡ codes "struct " ++ (tag_of s ++ structure_tail s x)
+structure_whole : (s : Structure89) (x : List ℕ) → structure_text s ++ x ≡ codes "struct " ++ (tag_of s ++ structure_tail s x)
 structure_whole (Tag name) x = ap (λ r. codes "struct " ++ r) (append_assoc name (codes ";\n") x)
 structure_whole (Members name d ds) x =
     ap (λ r. codes "struct " ++ r) (append_assoc name _ x ∙ ap (λ r. name ++ (codes " {\n" ++ r)) (append_assoc (objects_text 1 (d ∷ ds)) (codes "};\n") x))
 
-tag_written : (s : Structure) (ss : List Structure) → WrittenStructures (s ∷ ss) → IsName (tag_of s) × WrittenStructures ss
+tag_written : (s : Structure89) (ss : List Structure89) → WrittenStructures (s ∷ ss) → IsName (tag_of s) × WrittenStructures ss
 tag_written (Tag name) ss w = w
 tag_written (Members name d ds) ss w = (w.0, w.2)
 
-tail_no_word : (s : Structure) (x : List ℕ) → begins_with is_word_byte (structure_tail s x) ≡ false
+tail_no_word : (s : Structure89) (x : List ℕ) → begins_with is_word_byte (structure_tail s x) ≡ false
 tail_no_word (Tag name) x = refl
 tail_no_word (Members name d ds) x = refl
 
-structure_is : (s : Structure) (x : List ℕ) → IsName (tag_of s) → is_structure (structure_text s ++ x) ≡ true
+structure_is : (s : Structure89) (x : List ℕ) → IsName (tag_of s) → is_structure (structure_text s ++ x) ≡ true
 structure_is s x w =
     ap is_structure (structure_whole s x) ∙ ap (λ r. is_there (strip (codes ";") r) || is_there (strip (codes " {") r)) (behind_is is_word_byte (tag_of s) (structure_tail s x) w.goes_on (tail_no_word s x)) ∙ tail s
   where
-    tail : (s : Structure) → is_there (strip (codes ";") (structure_tail s x)) || is_there (strip (codes " {") (structure_tail s x)) ≡ true
+    tail : (s : Structure89) → is_there (strip (codes ";") (structure_tail s x)) || is_there (strip (codes " {") (structure_tail s x)) ≡ true
     tail (Tag name) = refl
     tail (Members name d ds) = refl
 
@@ -213,11 +213,11 @@ one_name m n x y p q f g e = (
   sym (behind_is is_word_byte m x p.goes_on f) ∙ ap (behind is_word_byte) e ∙ behind_is is_word_byte n y q.goes_on g,
 )
 
-abbrev with_members : List ℕ → List Declaration → Structure
+abbrev with_members : List ℕ → List Declaration → Structure89
 with_members name [] = Tag name
 with_members name (d ∷ ds) = Members name d ds
 
-structure_tails : (s t : Structure) (ss ts : List Structure) (x y : List ℕ) → WrittenStructures (s ∷ ss) → WrittenStructures (t ∷ ts) → tag_of s ≡ tag_of t → structure_tail s x ≡ structure_tail t y → (s ≡ t) × (x ≡ y)
+structure_tails : (s t : Structure89) (ss ts : List Structure89) (x y : List ℕ) → WrittenStructures (s ∷ ss) → WrittenStructures (t ∷ ts) → tag_of s ≡ tag_of t → structure_tail s x ≡ structure_tail t y → (s ≡ t) × (x ≡ y)
 structure_tails (Tag m) (Tag n) ss ts x y p q n' e = (ap Tag n', cancel (codes ";\n") x y e)
 structure_tails (Tag m) (Members n d ds) ss ts x y p q n' e = absurd (omega (arith, heads 59 32 _ _ e))
 structure_tails (Members m d ds) (Tag n) ss ts x y p q n' e = absurd (omega (arith, heads 32 59 _ _ e))
@@ -225,15 +225,15 @@ structure_tails (Members m d ds) (Members n f fs) ss ts x y p q n' e =
     let one = one_objects 1 (d ∷ ds) (f ∷ fs) _ _ p.1 q.1 (ap (λ c. c == 1) (code_of_end 0 (codes ";\n" ++ x))) (ap (λ c. c == 1) (code_of_end 0 (codes ";\n" ++ y))) (cancel (codes " {\n") _ _ e) in
     (ap (λ k. Members k d ds) n' ∙ ap (with_members n) one.0, cancel (codes "};\n") x y one.1)
 
-one_structure : (s t : Structure) (ss ts : List Structure) (x y : List ℕ) → WrittenStructures (s ∷ ss) → WrittenStructures (t ∷ ts) → structure_text s ++ x ≡ structure_text t ++ y → (s ≡ t) × (x ≡ y)
+one_structure : (s t : Structure89) (ss ts : List Structure89) (x y : List ℕ) → WrittenStructures (s ∷ ss) → WrittenStructures (t ∷ ts) → structure_text s ++ x ≡ structure_text t ++ y → (s ≡ t) × (x ≡ y)
 one_structure s t ss ts x y p q e =
     let name = one_name (tag_of s) (tag_of t) (structure_tail s x) (structure_tail t y) (tag_written s ss p).0 (tag_written t ts q).0 (tail_no_word s x) (tail_no_word t y) (cancel (codes "struct ") _ _ (sym (structure_whole s x) ∙ e ∙ structure_whole t y)) in
     structure_tails s t ss ts x y p q name.0 name.1
 
-structures_whole : (s : Structure) (ss : List Structure) (x : List ℕ) → structures_text (s ∷ ss) ++ x ≡ structure_text s ++ (structures_text ss ++ x)
+structures_whole : (s : Structure89) (ss : List Structure89) (x : List ℕ) → structures_text (s ∷ ss) ++ x ≡ structure_text s ++ (structures_text ss ++ x)
 structures_whole s ss x = append_assoc (structure_text s) (structures_text ss) x
 
-one_structures : (ss ts : List Structure) (x y : List ℕ) → WrittenStructures ss → WrittenStructures ts → is_structure x ≡ false → is_structure y ≡ false → structures_text ss ++ x ≡ structures_text ts ++ y → (ss ≡ ts) × (x ≡ y)
+one_structures : (ss ts : List Structure89) (x y : List ℕ) → WrittenStructures ss → WrittenStructures ts → is_structure x ≡ false → is_structure y ≡ false → structures_text ss ++ x ≡ structures_text ts ++ y → (ss ≡ ts) × (x ≡ y)
 one_structures [] [] x y p q m n e = (refl, e)
 one_structures [] (t ∷ ts) x y p q m n e = differ (sym (structure_is t (structures_text ts ++ y) (tag_written t ts q).0) ∙ sym (ap is_structure (e ∙ structures_whole t ts y)) ∙ m)
 one_structures (s ∷ ss) [] x y p q m n e = differ (sym (structure_is s (structures_text ss ++ x) (tag_written s ss p).0) ∙ sym (ap is_structure (sym e ∙ structures_whole s ss x)) ∙ n)

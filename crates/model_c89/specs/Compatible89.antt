@@ -2,7 +2,8 @@
 use Rattle.std.specs.Prelude.{ℕ, nat_eq, Bool, true, false, ◌&&◌}
 use Rattle.std.specs.Str.{bytes_eq}
 use Rattle.model_types.specs.Compatible.{same_bool, lengths_agree}
-use Rattle.model_core.specs.Types89.{Base, Void, Char, SignedChar, UnsignedChar, Short, UnsignedShort, Int, UnsignedInt, Long, UnsignedLong, Struct, Type89, Based, Pointer, Array, Function, Types89, no_types, more_types}
+use Rattle.model_core.specs.Types89.{Base, Void, Char, SignedChar, UnsignedChar, Short, UnsignedShort, Int, UnsignedInt, Long, UnsignedLong, Struct}
+use Rattle.model_core.specs.Types89.{Type89, Based, Pointer, Array, Function, Types89, no_types, more_types}
 
 abbrev pub base_ordinal : Base → ℕ
 base_ordinal Void = 0

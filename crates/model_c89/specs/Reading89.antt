@@ -13,12 +13,14 @@ mutual
   pub data ReadsInit : List ℕ → tree.Init → Type 0 where
     reads_value : (text : List ℕ) (e : tree.Expr) → ReadsExpr text e → ReadsInit text (tree.Value e)
     reads_string : (text bytes : List ℕ) → text ≡ codes "\"" ++ (bytes_text bytes ++ codes "\"") → ReadsInit text (tree.Text bytes)
-    reads_braces : (text : List ℕ) (init : tree.Init) (inits : tree.Inits) (first rest : List ℕ) → ReadsInit first init → ReadsInits rest inits → text ≡ codes "{" ++ (first ++ (rest ++ codes "}")) → ReadsInit text (tree.Braces init inits)
+    reads_braces : (text : List ℕ) (init : tree.Init) (inits : tree.Inits) (first rest : List ℕ) → ReadsInit first init →
+        ReadsInits rest inits → text ≡ codes "{" ++ (first ++ (rest ++ codes "}")) → ReadsInit text (tree.Braces init inits)
 
   -- { ", " init }
   pub data ReadsInits : List ℕ → tree.Inits → Type 0 where
     reads_no_init : (text : List ℕ) → text ≡ [] → ReadsInits text tree.no_inits
-    reads_inits : (text : List ℕ) (init : tree.Init) (inits : tree.Inits) (first rest : List ℕ) → ReadsInit first init → ReadsInits rest inits → text ≡ codes ", " ++ (first ++ rest) → ReadsInits text (tree.more_inits init inits)
+    reads_inits : (text : List ℕ) (init : tree.Init) (inits : tree.Inits) (first rest : List ℕ) → ReadsInit first init →
+        ReadsInits rest inits → text ≡ codes ", " ++ (first ++ rest) → ReadsInits text (tree.more_inits init inits)
 
 -- [ " = " init ]
 pub data ReadsValue : List ℕ → Option tree.Init → Type 0 where
@@ -34,17 +36,20 @@ pub record ReadsOuter (text : List ℕ) (outer : tree.Outer) : Type 0 where
 -- { outer ";" NL }
 pub data ReadsOuters : List ℕ → List tree.Outer → Type 0 where
   reads_no_outer : (text : List ℕ) → text ≡ [] → ReadsOuters text []
-  reads_outers : (text : List ℕ) (outer : tree.Outer) (outers : List tree.Outer) (first rest : List ℕ) → ReadsOuter first outer → ReadsOuters rest outers → text ≡ first ++ rest → ReadsOuters text (outer ∷ outers)
+  reads_outers : (text : List ℕ) (outer : tree.Outer) (outers : List tree.Outer) (first rest : List ℕ) → ReadsOuter first outer → ReadsOuters rest outers →
+      text ≡ first ++ rest → ReadsOuters text (outer ∷ outers)
 
 -- structure = "struct " N ";" NL | "struct " N " {" NL "    " d(T, N) ";" NL { "    " d(T, N) ";" NL } "};" NL
-pub data ReadsStructure : List ℕ → tree.Structure → Type 0 where
+pub data ReadsStructure : List ℕ → tree.Structure89 → Type 0 where
   reads_tag : (text name : List ℕ) → text ≡ codes "struct " ++ (name ++ codes ";\n") → ReadsStructure text (tree.Tag name)
-  reads_members : (text name : List ℕ) (d : tree.Declaration) (ds : List tree.Declaration) (inner : List ℕ) → ReadsObjects 1 inner (d ∷ ds) → text ≡ codes "struct " ++ (name ++ (codes " {\n" ++ (inner ++ codes "};\n"))) → ReadsStructure text (tree.Members name d ds)
+  reads_members : (text name : List ℕ) (d : tree.Declaration) (ds : List tree.Declaration) (inner : List ℕ) → ReadsObjects 1 inner (d ∷ ds) →
+      text ≡ codes "struct " ++ (name ++ (codes " {\n" ++ (inner ++ codes "};\n"))) → ReadsStructure text (tree.Members name d ds)
 
 -- { structure }
-pub data ReadsStructures : List ℕ → List tree.Structure → Type 0 where
+pub data ReadsStructures : List ℕ → List tree.Structure89 → Type 0 where
   reads_no_structure : (text : List ℕ) → text ≡ [] → ReadsStructures text []
-  reads_structures : (text : List ℕ) (s : tree.Structure) (ss : List tree.Structure) (first rest : List ℕ) → ReadsStructure first s → ReadsStructures rest ss → text ≡ first ++ rest → ReadsStructures text (s ∷ ss)
+  reads_structures : (text : List ℕ) (s : tree.Structure89) (ss : List tree.Structure89) (first rest : List ℕ) → ReadsStructure first s →
+      ReadsStructures rest ss → text ≡ first ++ rest → ReadsStructures text (s ∷ ss)
 
 -- function = [ "static " ] d(T, N "(" parameters ")") NL "{" NL body "}" NL
 pub record ReadsFunction (text : List ℕ) (f : tree.Function) : Type 0 where
@@ -55,7 +60,8 @@ pub record ReadsFunction (text : List ℕ) (f : tree.Function) : Type 0 where
 -- { NL function }
 pub data ReadsFunctions : List ℕ → List tree.Function → Type 0 where
   reads_no_function : (text : List ℕ) → text ≡ [] → ReadsFunctions text []
-  reads_functions : (text : List ℕ) (f : tree.Function) (fs : List tree.Function) (first rest : List ℕ) → ReadsFunction first f → ReadsFunctions rest fs → text ≡ codes "\n" ++ (first ++ rest) → ReadsFunctions text (f ∷ fs)
+  reads_functions : (text : List ℕ) (f : tree.Function) (fs : List tree.Function) (first rest : List ℕ) → ReadsFunction first f → ReadsFunctions rest fs →
+      text ≡ codes "\n" ++ (first ++ rest) → ReadsFunctions text (f ∷ fs)
 
 -- program = { structure } { outer ";" NL } { NL function }
 pub record ReadsProgram (text : List ℕ) (program : tree.Program) : Type 0 where

@@ -37,11 +37,11 @@ abbrev pub outers_text : List text.Outer → List ℕ
 outers_text [] = []
 outers_text (outer ∷ outers) = outer_text outer ++ outers_text outers
 
-abbrev pub structure_text : text.Structure → List ℕ
+abbrev pub structure_text : text.Structure89 → List ℕ
 structure_text (text.Tag name) = codes "struct " ++ (name ++ codes ";\n")
 structure_text (text.Members name first others) = codes "struct " ++ (name ++ (codes " {\n" ++ (objects_text 1 (first ∷ others) ++ codes "};\n")))
 
-abbrev pub structures_text : List text.Structure → List ℕ
+abbrev pub structures_text : List text.Structure89 → List ℕ
 structures_text [] = []
 structures_text (structure ∷ structures) = structure_text structure ++ structures_text structures
 

@@ -75,7 +75,7 @@ block_of f name =
     else if is_defined f.program.outers name then Global (Named name) else Outside name
 
 -- an object whose scope is entered lives, and nothing is known of it
-abbrev pub entered : List text.Structure → (call : ℕ) → List text.Declaration → Memory → Memory
+abbrev pub entered : List text.Structure89 → (call : ℕ) → List text.Declaration → Memory → Memory
 entered structures call [] memory = memory
 entered structures call (d ∷ ds) memory = entered structures call ds (with_block memory (Local call (Named d.name)) (fresh (size_of structures d.type)))
 
@@ -83,14 +83,14 @@ abbrev pub dead : (size : ℕ) → Contents
 dead size = record (fresh size) { live = false }
 
 -- one whose scope is left is dead
-abbrev pub scope_left : List text.Structure → (call : ℕ) → List text.Declaration → Memory → Memory
+abbrev pub scope_left : List text.Structure89 → (call : ℕ) → List text.Declaration → Memory → Memory
 scope_left structures call [] memory = memory
 scope_left structures call (d ∷ ds) memory = scope_left structures call ds (with_block memory (Local call (Named d.name)) (dead (size_of structures d.type)))
 
-abbrev pub enter_scope : List text.Structure → (call : ℕ) → List text.Declaration → Act (Unit {0})
+abbrev pub enter_scope : List text.Structure89 → (call : ℕ) → List text.Declaration → Act (Unit {0})
 enter_scope structures call ds = λ s. Goes tt (record s { memory = entered structures call ds s.memory })
 
-abbrev pub leave_scope : List text.Structure → (call : ℕ) → List text.Declaration → Act (Unit {0})
+abbrev pub leave_scope : List text.Structure89 → (call : ℕ) → List text.Declaration → Act (Unit {0})
 leave_scope structures call ds = λ s. Goes tt (record s { memory = scope_left structures call ds s.memory })
 
 abbrev pub outer_names : List text.Outer → List text.Declaration

@@ -15,23 +15,23 @@ use Rattle.model_runs.specs.Loads.{value_at}
 use Rattle.model_runs.specs.Applied.{applied, applied_unary, is_true, truth_value, converted, ToInteger, ToPointer}
 use Rattle.model_runs.specs.Accesses.{load_from}
 use Rattle.model_runs.specs.Run.{Act, ◌▷◌, just, ends, unless_undefined, Undefined}
-use Rattle.model_runs.specs.Operands.{Location, pointed, further, counted, single}
+use Rattle.model_runs.specs.Operands.{Location, pointed_location, moved_location, index_value, just_scalar}
 use Rattle.model_c89.specs.TargetLayout.{size_of, shape_of, member_of, found_type, found_rank, offset_of}
 use Rattle.model_c89.specs.TargetTypes.{integer_type, basic_or_int, is_pointer, pointee}
 use Rattle.model_c89.specs.TargetFrame.{Frame}
 use Rattle.model_core.specs.Program89 as text
 
 -- the member of a name
-abbrev pub member_at : List text.Structure → Type89 → (name : List ℕ) → Location → Location
-member_at structures type name location = further (pos (offset_of structures type (found_rank (member_of structures type name)))) location
+abbrev pub member_at : List text.Structure89 → Type89 → (name : List ℕ) → Location → Location
+member_at structures type name location = moved_location (pos (offset_of structures type (found_rank (member_of structures type name)))) location
 
 -- the element of an index
 abbrev pub element_at : Frame → (pointer : Type89) → (base index : Scalar) → Act Location
-element_at f pointer base index = pointed None base ▷ (λ l. just (further (counted index *ℤ pos (size_of f.program.structures (pointee pointer))) l))
+element_at f pointer base index = pointed_location None base ▷ (λ l. just (moved_location (index_value index *ℤ pos (size_of f.program.structures (pointee pointer))) l))
 
 -- the value of an object of a type: an array is its address
 abbrev pub read_place : Frame → Type89 → Location → Act Value
-read_place f (Array count of) l = single (Address l.block l.offset)
+read_place f (Array count of) l = just_scalar (Address l.block l.offset)
 read_place f type l = load_from None (shape_of f.program.structures type) l.block l.offset
 
 -- an integer of a type as one of another; of its own, it is as it is

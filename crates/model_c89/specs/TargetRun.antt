@@ -63,7 +63,7 @@ integer_answer None = OtherAnswer
 integer_answer (Some basic) = IntegerAnswer basic
 
 -- what an outside function with this result answers
-abbrev pub answering : List text.Structure → Type89 → Answering
+abbrev pub answering : List text.Structure89 → Type89 → Answering
 answering structures (Based is_const Void) = NoAnswer
 answering structures (Based is_const base) = integer_answer (integer_of base)
 answering structures (Pointer outer (Based inner (Struct name))) = if is_incomplete structures name then HandleAnswer false else OtherAnswer
@@ -90,7 +90,7 @@ result_of (Function result parameters is_variadic) = result
 result_of type = type
 
 -- the parameters get the values of the arguments
-abbrev pub bind : List text.Structure → (call : ℕ) → List text.Declaration → List Value → Act (Unit {0})
+abbrev pub bind : List text.Structure89 → (call : ℕ) → List text.Declaration → List Value → Act (Unit {0})
 bind structures call [] [] = just tt
 bind structures call (d ∷ ds) (v ∷ vs) =
     store_to None (shape_of structures d.type) (Local call (Named d.name)) (pos 0) v ▷ (λ u. bind structures call ds vs)

@@ -17,10 +17,10 @@ use Rattle.model_c89.specs.TargetValues.{needed, evaluate, is_function}
 use Rattle.model_core.specs.Program89 as text
 
 -- the program completes the structure nowhere
-abbrev pub is_incomplete : List text.Structure → (name : List ℕ) → Bool
+abbrev pub is_incomplete : List text.Structure89 → (name : List ℕ) → Bool
 is_incomplete structures name = not (is_some (members_in structures name))
 
-abbrev pub is_handle_type : List text.Structure → Type89 → Bool
+abbrev pub is_handle_type : List text.Structure89 → Type89 → Bool
 is_handle_type structures (Pointer is_const (Based inner (Struct name))) = is_incomplete structures name
 is_handle_type structures type = false
 
@@ -51,11 +51,11 @@ declared_type None = int_type
 declared_type (Some d) = d.type
 
 -- the type and offset of a part: an element, or a member
-abbrev pub part_type : List text.Structure → Type89 → (rank : ℕ) → Type89
+abbrev pub part_type : List text.Structure89 → Type89 → (rank : ℕ) → Type89
 part_type structures (Array count of) rank = of
 part_type structures type rank = declared_type (slice_get (members_or_none (members_of structures type)) rank)
 
-abbrev pub part_offset : List text.Structure → Type89 → (rank : ℕ) → ℕ
+abbrev pub part_offset : List text.Structure89 → Type89 → (rank : ℕ) → ℕ
 part_offset structures (Array count of) rank = rank * size_of structures of
 part_offset structures type rank = offset_of structures type rank
 

@@ -13,7 +13,7 @@ use Rattle.model_core.specs.Program89 as text
 
 -- the structures of a program, and the names that are in scope, the innermost first
 pub record Names : Type 0 where
-  pub structures : List text.Structure
+  pub structures : List text.Structure89
   pub declared : List text.Declaration
 
 abbrev pub find_name : List text.Declaration → (name : List ℕ) → Option Type89

@@ -7,7 +7,7 @@ use Rattle.model_runs.specs.Memory.{Named, Scalar, Number, Address, Code, Value,
 use Rattle.model_runs.specs.Applied.{is_true}
 use Rattle.model_runs.specs.Run.{Act, ◌▷◌, just, ends, choose, used, scalar_of, Undefined}
 use Rattle.model_c89.specs.TargetTypes.{type_of, value_type, is_pointer, pointee}
-use Rattle.model_runs.specs.Operands.{Location, pointed, logic, single}
+use Rattle.model_runs.specs.Operands.{Location, pointed_location, logical_value, just_scalar}
 use Rattle.model_c89.specs.TargetFrame.{Frame, block_of}
 use Rattle.model_c89.specs.TargetOperations.{member_at, element_at, read_place, value_as, operated_on, applied_prefix, member_value}
 use Rattle.model_core.specs.Program89 as text
@@ -59,9 +59,9 @@ abbrev mutual
   -- the value of an expression
   pub evaluate : Frame → text.Expr → Act Value
   evaluate f (text.Name name) =
-      if is_function (type_of f.names (text.Name name)) then single (Code (Named name))
+      if is_function (type_of f.names (text.Name name)) then just_scalar (Code (Named name))
       else read_place f (type_of f.names (text.Name name)) (record { block = block_of f name; offset = pos 0 })
-  evaluate f (text.Constant number suffix) = single (Number (pos number))
+  evaluate f (text.Constant number suffix) = just_scalar (Number (pos number))
   evaluate f (text.Index a b) =
       operand (evaluate f a)
       ▷ (λ x. operand (evaluate f b)
@@ -72,19 +72,19 @@ abbrev mutual
       else needed (evaluate f structure) ▷ member_value f (type_of f.names structure) name
   evaluate f (text.Arrow pointer name) =
       operand (evaluate f pointer)
-      ▷ (λ p. pointed None p
+      ▷ (λ p. pointed_location None p
       ▷ (λ l. read_place f (type_of f.names (text.Arrow pointer name)) (member_at f.program.structures (pointee (value_type f.names pointer)) name l)))
   evaluate f (text.Call function arguments) =
       operand (evaluate f function) ▷ (λ p. values_of f arguments ▷ f.callee p (value_type f.names function) (types_of f arguments))
   evaluate f (text.Unary text.Deref pointer) =
       if is_function (type_of f.names (text.Unary text.Deref pointer)) then evaluate f pointer
-      else operand (evaluate f pointer) ▷ (λ p. pointed None p ▷ read_place f (type_of f.names (text.Unary text.Deref pointer)))
+      else operand (evaluate f pointer) ▷ (λ p. pointed_location None p ▷ read_place f (type_of f.names (text.Unary text.Deref pointer)))
   evaluate f (text.Unary text.AddressOf object) =
-      if is_function (type_of f.names object) then evaluate f object else locate f object ▷ (λ l. single (Address l.block l.offset))
-  evaluate f (text.Unary op a) = operand (evaluate f a) ▷ (λ x. applied_prefix op (value_type f.names a) x ▷ single)
+      if is_function (type_of f.names object) then evaluate f object else locate f object ▷ (λ l. just_scalar (Address l.block l.offset))
+  evaluate f (text.Unary op a) = operand (evaluate f a) ▷ (λ x. applied_prefix op (value_type f.names a) x ▷ just_scalar)
   evaluate f (text.Binary op a b) =
-      operand (evaluate f a) ▷ (λ x. operand (evaluate f b) ▷ (λ y. operated_on f op (value_type f.names a) (value_type f.names b) x y ▷ single))
-  evaluate f (text.Logic op a b) = operand (evaluate f a) ▷ (λ x. logic op (is_true x) (operand (evaluate f b)) ▷ single)
+      operand (evaluate f a) ▷ (λ x. operand (evaluate f b) ▷ (λ y. operated_on f op (value_type f.names a) (value_type f.names b) x y ▷ just_scalar))
+  evaluate f (text.Logic op a b) = operand (evaluate f a) ▷ (λ x. logical_value op (is_true x) (operand (evaluate f b)) ▷ just_scalar)
   evaluate f (text.Choice condition a b) =
       operand (evaluate f condition) ▷ (λ x. chosen (value_type f.names a) (value_type f.names b) (type_of f.names (text.Choice condition a b)) (is_true x) (evaluate f a) (evaluate f b))
   evaluate f (text.Cast type a) = cast_to (value_type f.names a) type (evaluate f a)
@@ -98,8 +98,8 @@ abbrev mutual
       locate f structure ▷ (λ l. just (member_at f.program.structures (type_of f.names structure) name l))
   locate f (text.Arrow pointer name) =
       operand (evaluate f pointer)
-      ▷ (λ p. pointed None p ▷ (λ l. just (member_at f.program.structures (pointee (value_type f.names pointer)) name l)))
-  locate f (text.Unary text.Deref pointer) = operand (evaluate f pointer) ▷ pointed None
+      ▷ (λ p. pointed_location None p ▷ (λ l. just (member_at f.program.structures (pointee (value_type f.names pointer)) name l)))
+  locate f (text.Unary text.Deref pointer) = operand (evaluate f pointer) ▷ pointed_location None
   locate f _ = ends (Undefined Kind None)
 
   -- the values of arguments

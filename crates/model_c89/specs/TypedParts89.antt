@@ -35,7 +35,7 @@ has_const (Pointer is_const to) = is_const
 has_const (Array count of) = has_const of
 has_const type = false
 
-abbrev pub is_complete : List text.Structure → Type89 → Bool
+abbrev pub is_complete : List text.Structure89 → Type89 → Bool
 is_complete structures type = is_some (layout_of structures type)
 
 -- const, or with const elements or members, by which tags are of structures that have some
@@ -51,12 +51,12 @@ members_hold_const of_tag None = false
 members_hold_const of_tag (Some members) = list_any (λ m. holds_const of_tag m.type) members
 
 -- a structure, where structures lie in one another at most this deep
-abbrev pub tag_holds_const : (depth : ℕ) → List text.Structure → (name : List ℕ) → Bool
+abbrev pub tag_holds_const : (depth : ℕ) → List text.Structure89 → (name : List ℕ) → Bool
 tag_holds_const zero structures name = false
 tag_holds_const (suc depth) structures name = members_hold_const (tag_holds_const depth structures) (members_in structures name)
 
 -- an object of the type isn't assigned to: it is const, or a member at any depth is (6.2.2.1)
-abbrev pub is_const_somewhere : List text.Structure → Type89 → Bool
+abbrev pub is_const_somewhere : List text.Structure89 → Type89 → Bool
 is_const_somewhere structures = holds_const (tag_holds_const (length structures) structures)
 
 -- two pointers to compatible types, const of these aside
@@ -90,7 +90,7 @@ meet left_null right_null left right =
     || (is_object_pointer left && is_object_pointer right && (is_void_pointer left || is_void_pointer right))
 
 -- a pointer that is moved points to a complete type
-abbrev pub can_move : List text.Structure → Type89 → Bool
+abbrev pub can_move : List text.Structure89 → Type89 → Bool
 can_move structures type = is_object_pointer type && is_complete structures (pointee type)
 
 abbrev pub both_integers : Type89 → Type89 → Bool
@@ -101,7 +101,7 @@ abbrev pub are_ordered : Type89 → Type89 → Bool
 are_ordered left right = is_object_pointer left && alike left right
 
 -- the operands of a binary operator, with whether they are null constants
-abbrev pub takes : List text.Structure → BinOp → (left_null right_null : Bool) → Type89 → Type89 → Bool
+abbrev pub takes : List text.Structure89 → BinOp → (left_null right_null : Bool) → Type89 → Type89 → Bool
 takes structures Add m n left right =
     both_integers left right || (can_move structures left && is_integer right) || (is_integer left && can_move structures right)
 takes structures Sub m n left right =
@@ -150,9 +150,9 @@ prefix_fits names text.Deref e = is_pointer (value_type names e)
 prefix_fits names text.AddressOf e = is_function (type_of names e) || (is_place e && not (is_void (type_of names e)))
 
 -- one of the operands of an index is a pointer that can be moved, the other an integer
-abbrev pub index_fits : List text.Structure → Type89 → Type89 → Bool
+abbrev pub index_fits : List text.Structure89 → Type89 → Type89 → Bool
 index_fits structures left right = (can_move structures left && is_integer right) || (is_integer left && can_move structures right)
 
-abbrev pub result_fits : List text.Structure → Type89 → Bool
+abbrev pub result_fits : List text.Structure89 → Type89 → Bool
 result_fits structures (Function result parameters is_variadic) = is_void result || is_complete structures result
 result_fits structures type = false

@@ -19,12 +19,12 @@ use Rattle.model_c89.specs.TypedStat89.{assignment_fits, all_stand, objects_fit,
 use Rattle.model_c89.specs.Written89.{Written}
 use Rattle.model_core.specs.Program89 as text
 
-abbrev pub has_tag : List text.Structure → (name : List ℕ) → Bool
+abbrev pub has_tag : List text.Structure89 → (name : List ℕ) → Bool
 has_tag [] name = false
 has_tag (text.Tag other ∷ structures) name = bytes_eq other name || has_tag structures name
 has_tag (text.Members other first others ∷ structures) name = bytes_eq other name || has_tag structures name
 
-abbrev pub base_fits : List text.Structure → Base → Bool
+abbrev pub base_fits : List text.Structure89 → Base → Bool
 base_fits structures (Struct name) = has_tag structures name
 base_fits structures base = true
 
@@ -39,14 +39,14 @@ is_parameter type = not (is_array type) && not (is_function type) && not (is_voi
 abbrev mutual
   -- a type has structures that are declared, complete elements, results that are values, and const
   -- of a pointer only behind a pointer
-  pub type_fits : List text.Structure → Type89 → Bool
+  pub type_fits : List text.Structure89 → Type89 → Bool
   type_fits structures (Based is_const base) = base_fits structures base
   type_fits structures (Pointer is_const to) = type_fits structures to
   type_fits structures (Array count of) = type_fits structures of && is_complete structures of
   type_fits structures (FunctionType result parameters is_variadic) =
       type_fits structures result && not (is_array result) && not (is_function result) && not (is_const_pointer result) && types_fit structures parameters
 
-  pub types_fit : List text.Structure → Types89 → Bool
+  pub types_fit : List text.Structure89 → Types89 → Bool
   types_fit structures no_types = true
   types_fit structures (more_types first others) = type_fits structures first && is_parameter first && types_fit structures others
 
@@ -55,22 +55,22 @@ abbrev pub is_named_variadic : Type89 → Bool
 is_named_variadic (FunctionType result no_types true) = false
 is_named_variadic type = true
 
-abbrev pub declared_fits : List text.Structure → Type89 → Bool
+abbrev pub declared_fits : List text.Structure89 → Type89 → Bool
 declared_fits structures type = type_fits structures type && not (is_const_pointer type) && is_named_variadic type
 
 -- structures: a tag may stand more than once, members once; these are complete before
-abbrev pub members_fit : List text.Structure → List text.Declaration → Bool
+abbrev pub members_fit : List text.Structure89 → List text.Declaration → Bool
 members_fit structures [] = true
 members_fit structures (m ∷ ms) =
     declared_fits structures m.type && is_complete structures m.type && not (is_declared ms m.name) && members_fit structures ms
 
-abbrev pub has_members : List text.Structure → (name : List ℕ) → Bool
+abbrev pub has_members : List text.Structure89 → (name : List ℕ) → Bool
 has_members [] name = false
 has_members (text.Tag other ∷ structures) name = has_members structures name
 has_members (text.Members other first others ∷ structures) name = bytes_eq other name || has_members structures name
 
 -- with those that stand before
-abbrev pub structures_fit : (before : List text.Structure) → List text.Structure → Bool
+abbrev pub structures_fit : (before : List text.Structure89) → List text.Structure89 → Bool
 structures_fit before [] = true
 structures_fit before (text.Tag name ∷ structures) = structures_fit (text.Tag name ∷ before) structures
 structures_fit before (text.Members name first others ∷ structures) =
@@ -83,7 +83,7 @@ is_room_for (Array (Some count) (Based is_const type.Char)) bytes = nat_le (leng
 is_room_for _ bytes = false
 
 -- an element or member of a rank is there
-abbrev pub has_part : List text.Structure → Type89 → (rank : ℕ) → Bool
+abbrev pub has_part : List text.Structure89 → Type89 → (rank : ℕ) → Bool
 has_part structures (Array (Some count) of) rank = nat_lt rank count
 has_part structures type rank = nat_lt rank (length (members_or_none (members_of structures type)))
 

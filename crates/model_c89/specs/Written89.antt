@@ -117,7 +117,7 @@ abbrev pub WrittenOuters : List text.Outer → Type 0
 WrittenOuters [] = Unit {0}
 WrittenOuters (o ∷ os) = WrittenType o.type × IsName o.name × WrittenValue o.init × WrittenOuters os
 
-abbrev pub WrittenStructures : List text.Structure → Type 0
+abbrev pub WrittenStructures : List text.Structure89 → Type 0
 WrittenStructures [] = Unit {0}
 WrittenStructures (text.Tag name ∷ structures) = IsName name × WrittenStructures structures
 WrittenStructures (text.Members name first others ∷ structures) = IsName name × WrittenDeclarations (first ∷ others) × WrittenStructures structures
@@ -125,7 +125,8 @@ WrittenStructures (text.Members name first others ∷ structures) = IsName name 
 abbrev pub WrittenFunctions : List text.Function → Type 0
 WrittenFunctions [] = Unit {0}
 WrittenFunctions (f ∷ fs) =
-    WrittenType f.result × IsName f.name × (WrittenDeclarations f.parameters × HasFirst (text.types_of f.parameters) f.is_variadic) × WrittenDeclarations f.objects × WrittenStats f.body × WrittenFunctions fs
+    WrittenType f.result × IsName f.name × (WrittenDeclarations f.parameters × HasFirst (text.types_of f.parameters) f.is_variadic)
+    × WrittenDeclarations f.objects × WrittenStats f.body × WrittenFunctions fs
 
 pub record Written (program : text.Program) : Type 0 where
   pub structures : WrittenStructures program.structures

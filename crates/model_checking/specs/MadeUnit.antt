@@ -94,7 +94,7 @@ object_of s id d = record {
 }
 
 abbrev object_before : Bool → unit.DeclaredObject → List unit.DeclaredObject → List unit.DeclaredObject
-object_before true o os = o ∷ os
+object_before true o os = object_inserted o os
 object_before false o os = os
 
 abbrev declared_objects : State → List (ℕ × Declared) → List unit.DeclaredObject
@@ -156,7 +156,7 @@ function_by body id d = record {
 }
 
 abbrev function_before : Bool → unit.Function → List unit.Function → List unit.Function
-function_before true f fs = f ∷ fs
+function_before true f fs = function_inserted f fs
 function_before false f fs = fs
 
 abbrev declared_functions : State → List (ℕ × Declared) → List unit.Function

@@ -90,9 +90,9 @@ pub data Storage : Type 0 where
   Extern : Storage
 
 -- a structure: its tag alone, or with members
-pub data Structure : Type 0 where
-  Tag : (name : List ℕ) → Structure
-  Members : (name : List ℕ) (first : Declaration) (others : List Declaration) → Structure
+pub data Structure89 : Type 0 where
+  Tag : (name : List ℕ) → Structure89
+  Members : (name : List ℕ) (first : Declaration) (others : List Declaration) → Structure89
 
 -- a declaration outside of functions, with its initial value where it has one
 pub record Outer : Type 0 where
@@ -112,7 +112,7 @@ pub record Function : Type 0 where
   pub body : Stats
 
 pub record Program : Type 0 where
-  pub structures : List Structure
+  pub structures : List Structure89
   pub outers : List Outer
   pub functions : List Function
 

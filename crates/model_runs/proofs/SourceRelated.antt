@@ -10,7 +10,7 @@ use Rattle.model_runs.specs.Memory.{Block, Scalar, Number, Null, Address, Code, 
 use Rattle.model_runs.specs.Applied.{is_true, applied, applied_unary}
 use Rattle.model_runs.specs.Run.{Act}
 use Rattle.model_core.specs.CoreTypes.{is_void, type_of, types_of, object_type, shape_of, basic_of, step_size, int_type}
-use Rattle.model_runs.specs.Operands.{Location, pointed, logic, single}
+use Rattle.model_runs.specs.Operands.{Location, pointed_location, logical_value, just_scalar}
 use Rattle.model_runs.specs.SourceFrame.{Callee, Frame, block_of}
 use Rattle.std.specs.Option.{unwrap_or}
 use Rattle.model_types.specs.Layout.{member_offset}
@@ -30,11 +30,11 @@ CalleeRel j d c c' =
     (place null_place : Option Place) (p : Scalar) (type : CType) (types : List CType) (vs : List Value) → Rel j d (c place null_place p type types vs) (c' place null_place p type types vs)
 
 module _ (j d : ℕ) where
-  pointed_related : (place : Option Place) (p : Scalar) → Rel j d (pointed place p) (pointed place p)
-  pointed_related place Null = ends_related j d _
-  pointed_related place (Address block offset) = just_related j d _
-  pointed_related place (Number value) = ends_related j d _
-  pointed_related place (Code function) = ends_related j d _
+  pointed_location_related : (place : Option Place) (p : Scalar) → Rel j d (pointed_location place p) (pointed_location place p)
+  pointed_location_related place Null = ends_related j d _
+  pointed_location_related place (Address block offset) = just_related j d _
+  pointed_location_related place (Number value) = ends_related j d _
+  pointed_location_related place (Code function) = ends_related j d _
 
   pub operand_related : (e : unit.Expr) (m n : Act Value) → Rel j d m n → Rel j d (operand e m) (operand e n)
   operand_related e m n related = then_related j d _ _ _ _ related (λ v. scalar_related j d (at_mark (expr_mark e)) v)
@@ -47,21 +47,21 @@ module _ (j d : ℕ) where
       if_related j d (is_void type) _ _ _ _ (then_related j d _ _ _ _ related (λ v. just_related j d Missing)) (then_related j d _ _ _ _ (needed_related e m n related) (λ v. just_related j d _))
 
   followed_related : (e : unit.Expr) (mark : Mark) (m n : Act Value) → Rel j d m n → Rel j d (followed e mark m) (followed e mark n)
-  followed_related e mark m n related = then_related j d _ _ _ _ (operand_related e m n related) (λ p. pointed_related (tested_at e (at_mark mark)) p)
+  followed_related e mark m n related = then_related j d _ _ _ _ (operand_related e m n related) (λ p. pointed_location_related (tested_at e (at_mark mark)) p)
 
-  logic_related : (op : LogicOp) (b : Bool) (m n : Act Scalar) → Rel j d m n → Rel j d (logic op b m) (logic op b n)
-  logic_related And true m n related = then_related j d _ _ _ _ related (λ v. just_related j d _)
-  logic_related And false m n related = just_related j d _
-  logic_related Or true m n related = just_related j d _
-  logic_related Or false m n related = then_related j d _ _ _ _ related (λ v. just_related j d _)
+  logical_value_related : (op : LogicOp) (b : Bool) (m n : Act Scalar) → Rel j d m n → Rel j d (logical_value op b m) (logical_value op b n)
+  logical_value_related And true m n related = then_related j d _ _ _ _ related (λ v. just_related j d _)
+  logical_value_related And false m n related = just_related j d _
+  logical_value_related Or true m n related = just_related j d _
+  logical_value_related Or false m n related = then_related j d _ _ _ _ related (λ v. just_related j d _)
 
   chosen_related : (type : CType) (x y : unit.Expr) (b : Bool) (m m' n n' : Act Value) → Rel j d m m' → Rel j d n n' → Rel j d (chosen type x y b m n) (chosen type x y b m' n')
   chosen_related type x y b m m' n n' first second =
       if_related j d (is_void type) _ _ _ _ (then_related j d _ _ _ _ (choose_related j d b _ _ _ _ first second) (λ v. just_related j d Missing))
       (choose_related j d b _ _ _ _ (needed_related x m m' first) (needed_related y n n' second))
 
-  single_related : (x : Scalar) → Rel j d (single x) (single x)
-  single_related x = just_related j d (Single x)
+  just_scalar_related : (x : Scalar) → Rel j d (just_scalar x) (just_scalar x)
+  just_scalar_related x = just_related j d (Single x)
 
   module _ (f : Frame) (c : Callee) (calls : CalleeRel j d f.callee c) where
     abbrev g : Frame
@@ -85,23 +85,23 @@ module _ (j d : ℕ) where
     member_related mark t u rank (StructureValue cells) = unless_undefined_related j d (at_mark mark) (value_at (shape_of f.core.structs u) cells (unwrap_or (member_offset f.core.structs t rank) 0))
 
     indexed_related : (e : unit.Expr) (mark : Mark) (p x : Scalar) → Rel j d (indexed f e mark p x) (indexed g e mark p x)
-    indexed_related e mark p x = then_related j d _ _ _ _ (pointed_related (tested_at e (at_mark mark)) p) (λ l. just_related j d _)
+    indexed_related e mark p x = then_related j d _ _ _ _ (pointed_location_related (tested_at e (at_mark mark)) p) (λ l. just_related j d _)
 
     mutual
       pub evaluate_related : (e : unit.Expr) → Rel j d (evaluate f e) (evaluate g e)
-      evaluate_related (unit.Constant value type mark) = single_related _
+      evaluate_related (unit.Constant value type mark) = just_scalar_related _
       evaluate_related (unit.Load object mark) = then_related j d _ _ _ _ (locate_related object) (object_loaded object)
-      evaluate_related (unit.Address origin object mark) = then_related j d _ _ _ _ (locate_related object) (λ l. single_related _)
-      evaluate_related (unit.FunctionRef id type by_name mark) = single_related _
+      evaluate_related (unit.Address origin object mark) = then_related j d _ _ _ _ (locate_related object) (λ l. just_scalar_related _)
+      evaluate_related (unit.FunctionRef id type by_name mark) = just_scalar_related _
       evaluate_related (unit.Unary op a mark) =
-          then_related j d _ _ _ _ (operand_related a _ _ (evaluate_related a)) (λ x. then_related j d _ _ _ _ (unless_undefined_related j d (at_mark mark) (applied_unary op (basic_of (form_of_type (type_of a))) x)) single_related)
+          then_related j d _ _ _ _ (operand_related a _ _ (evaluate_related a)) (λ x. then_related j d _ _ _ _ (unless_undefined_related j d (at_mark mark) (applied_unary op (basic_of (form_of_type (type_of a))) x)) just_scalar_related)
       evaluate_related (unit.Binary op a b mark) =
           then_related j d _ _ _ _ (operand_related a _ _ (evaluate_related a))
           (λ x. then_related j d _ _ _ _ (operand_related b _ _ (evaluate_related b))
-          (λ y. then_related j d _ _ _ _ (operated_related op mark (type_of a) (type_of b) x y) single_related))
+          (λ y. then_related j d _ _ _ _ (operated_related op mark (type_of a) (type_of b) x y) just_scalar_related))
       evaluate_related (unit.Logic op a b mark) =
           then_related j d _ _ _ _ (operand_related a _ _ (evaluate_related a))
-          (λ x. then_related j d _ _ _ _ (logic_related op (is_true x) _ _ (operand_related b _ _ (evaluate_related b))) single_related)
+          (λ x. then_related j d _ _ _ _ (logical_value_related op (is_true x) _ _ (operand_related b _ _ (evaluate_related b))) just_scalar_related)
       evaluate_related (unit.Choice c a b mark) =
           then_related j d _ _ _ _ (operand_related c _ _ (evaluate_related c))
           (λ x. chosen_related (type_of a) a b (is_true x) _ _ _ _ (evaluate_related a) (evaluate_related b))

@@ -1,5 +1,6 @@
 -- What the bytes of a block read as (ISO/IEC 9899:2024, 6.2.6.1, 6.3.3.1, 6.5.1), and why they don't.
-use Rattle.std.specs.Prelude.{ℕ, zero, suc, ◌+◌, ◌-◌, ◌==◌, min, max, nat_lt, nat_le, ℤ, pos, int_le, Bool, true, false, ◌&&◌, ◌||◌, not, List, [], ◌∷◌, ◌++◌, Option, Some, None, Result, Ok, Err, if◌then◌else◌, unsigned_abs}
+use Rattle.std.specs.Prelude.{ℕ, zero, suc, ◌+◌, ◌-◌, ◌==◌, min, max, nat_lt, nat_le, ℤ, pos, int_le, Bool, true, false, ◌&&◌, ◌||◌, not, List, []}
+use Rattle.std.specs.Prelude.{◌∷◌, ◌++◌, Option, Some, None, Result, Ok, Err, if◌then◌else◌, unsigned_abs}
 use Rattle.std.specs.List.{list_any}
 use Rattle.model_types.specs.declared.numbers.Basic.{Basic}
 use Rattle.model_types.specs.declared.numbers.Basic.TheVariants.{Bool as bool, UnsignedChar}

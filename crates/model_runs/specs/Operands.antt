@@ -15,26 +15,28 @@ pub record Location : Type 0 where
   pub offset : ℤ
 
 -- the object at a pointer that isn't null
-abbrev pub pointed : Option Place → Scalar → Act Location
-pointed place Null = ends (Undefined NullCause place)
-pointed place (Address block offset) = just (record { block = block; offset = offset })
-pointed place (Number value) = ends (Undefined Kind place)
-pointed place (Code function) = ends (Undefined Kind place)
+abbrev pub pointed_location : Option Place → Scalar → Act Location
+pointed_location place Null = ends (Undefined NullCause place)
+pointed_location place (Address block offset) = just (record { block = block; offset = offset })
+pointed_location place (Number value) = ends (Undefined Kind place)
+pointed_location place (Code function) = ends (Undefined Kind place)
 
--- so many bytes further on
-abbrev pub further : ℤ → Location → Location
-further bytes location = record location { offset = location.offset +ℤ bytes }
+-- a location that is so many bytes further on
+abbrev pub moved_location : ℤ → Location → Location
+moved_location bytes location = record location { offset = location.offset +ℤ bytes }
 
-abbrev pub counted : Scalar → ℤ
-counted (Number value) = value
-counted _ = pos 0
+-- the value of an index, which is an integer
+abbrev pub index_value : Scalar → ℤ
+index_value (Number value) = value
+index_value _ = pos 0
 
 -- `&&` and `||`: the second operand is evaluated where the first doesn't decide
-abbrev pub logic : LogicOp → Bool → Act Scalar → Act Scalar
-logic And true second = second ▷ (λ b. just (truth_value (is_true b)))
-logic And false second = just (truth_value false)
-logic Or true second = just (truth_value true)
-logic Or false second = second ▷ (λ b. just (truth_value (is_true b)))
+abbrev pub logical_value : LogicOp → Bool → Act Scalar → Act Scalar
+logical_value And true second = second ▷ (λ b. just (truth_value (is_true b)))
+logical_value And false second = just (truth_value false)
+logical_value Or true second = just (truth_value true)
+logical_value Or false second = second ▷ (λ b. just (truth_value (is_true b)))
 
-abbrev pub single : Scalar → Act Value
-single scalar = just (Single scalar)
+-- the value of a scalar, without a step
+abbrev pub just_scalar : Scalar → Act Value
+just_scalar scalar = just (Single scalar)

@@ -50,21 +50,21 @@ pub record ReadName : Type 0 where
   pub id : ℕ
   pub place : Place
 
-abbrev pub name_of : unit.Lvalue → Option ReadName
-name_of (unit.Object id type mark) = Some (record { id = id; place = mark.at })
-name_of object = None
+abbrev pub object_name : unit.Lvalue → Option ReadName
+object_name (unit.Object id type mark) = Some (record { id = id; place = mark.at })
+object_name object = None
 
 abbrev pub read_name : unit.Expr → Option ReadName
-read_name (unit.Load object mark) = name_of object
+read_name (unit.Load object mark) = object_name object
 read_name (unit.Convert origin type e mark) = if is_pointer (form_of_type type) then read_name e else None
 read_name e = None
 
 -- the pointer of `*p`, `p->m` or `p[i]`
-abbrev pub followed : unit.Lvalue → Option ReadName
-followed (unit.Deref pointer mark) = read_name pointer
-followed (unit.Index is_second a b mark) = if is_second then read_name b else read_name a
-followed (unit.Arrow pointer rank type name mark) = read_name pointer
-followed object = None
+abbrev pub followed_name : unit.Lvalue → Option ReadName
+followed_name (unit.Deref pointer mark) = read_name pointer
+followed_name (unit.Index is_second a b mark) = if is_second then read_name b else read_name a
+followed_name (unit.Arrow pointer rank type name mark) = read_name pointer
+followed_name object = None
 
 abbrev mutual
   -- the pointer through which an object is reached: that of `*p`, `p->m` or `p[i]`, or of such a place of
@@ -80,7 +80,7 @@ abbrev mutual
   pub indexed_through : unit.Expr → Option ReadName
   indexed_through (unit.Address Implied array mark) = reached_through array
   indexed_through (unit.Convert origin type e mark) = if is_pointer (form_of_type type) then indexed_through e else None
-  indexed_through (unit.Load object mark) = name_of object
+  indexed_through (unit.Load object mark) = object_name object
   indexed_through e = None
 
 -- the name of a tracked place stands there
@@ -88,7 +88,7 @@ pub record IsReadAt (core : unit.Core) (place : Place) : Type 0 where
   pub object : unit.Lvalue
   pub id : ℕ
   pub stands : Contains (parts_in core) (Designates object)
-  pub named : name_of object ≡ Some (record { id = id; place = place })
+  pub named : object_name object ≡ Some (record { id = id; place = place })
   pub tracked : IsTrue (is_tracked core id)
 
 -- the name of a tracked p of `*p`, `p->m` or `p[i]` stands there
@@ -96,7 +96,7 @@ pub record IsFollowedAt (core : unit.Core) (place : Place) : Type 0 where
   pub object : unit.Lvalue
   pub id : ℕ
   pub stands : Contains (parts_in core) (Designates object)
-  pub named : followed object ≡ Some (record { id = id; place = place })
+  pub named : followed_name object ≡ Some (record { id = id; place = place })
   pub tracked : IsTrue (is_tracked core id)
 
 -- an object that is reached through an owner stands there

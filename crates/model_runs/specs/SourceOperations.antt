@@ -21,13 +21,13 @@ use Rattle.model_runs.specs.Accesses.{load_from, store_to}
 use Rattle.model_runs.specs.Run.{Act, ◌▷◌, just, ends, unless_undefined, Undefined}
 use Rattle.model_core.specs.CoreTypes.{object_type, is_pointer, basic_of, shape_of, step_size}
 use Rattle.model_core.specs.SourceMarks.{at_mark, lvalue_mark}
-use Rattle.model_runs.specs.Operands.{Location, further}
+use Rattle.model_runs.specs.Operands.{Location, moved_location}
 use Rattle.model_runs.specs.SourceFrame.{Frame}
 use Rattle.model_core.specs.Core as unit
 
 -- the member of a rank
 abbrev pub member_at : List Structure → CType → (rank : ℕ) → Location → Location
-member_at structs type rank location = further (pos (unwrap_or (member_offset structs type rank) 0)) location
+member_at structs type rank location = moved_location (pos (unwrap_or (member_offset structs type rank) 0)) location
 
 -- the value of a constant
 abbrev pub constant : ℤ → CType → Scalar

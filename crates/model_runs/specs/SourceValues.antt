@@ -10,7 +10,7 @@ use Rattle.model_runs.specs.Applied.{applied_unary, is_true}
 use Rattle.model_runs.specs.Accesses.{store_to}
 use Rattle.model_runs.specs.Run.{Act, ◌▷◌, just, unless_undefined, choose, used, scalar_of}
 use Rattle.model_core.specs.CoreTypes.{type_of, called_type, object_type, types_of, int_type, basic_of, shape_of, element_size, pointee, is_void}
-use Rattle.model_runs.specs.Operands.{Location, pointed, further, counted, logic, single}
+use Rattle.model_runs.specs.Operands.{Location, pointed_location, moved_location, index_value, logical_value, just_scalar}
 use Rattle.model_runs.specs.SourceFrame.{Frame, block_of}
 use Rattle.model_core.specs.SourceMarks.{expr_mark, lvalue_mark, at_mark, tested_at}
 use Rattle.model_runs.specs.SourceOperations.{member_at, constant, called_value, to_value, load_object, store_object, operated_on, step_op, by_side, member_value, stepped}
@@ -35,25 +35,25 @@ chosen type a b condition first second =
 
 -- what a pointer points to: it is tested when the place is made
 abbrev pub followed : unit.Expr → Mark → Act Value → Act Location
-followed e mark m = operand e m ▷ pointed (tested_at e (at_mark mark))
+followed e mark m = operand e m ▷ pointed_location (tested_at e (at_mark mark))
 
 -- the element of an index
 abbrev pub indexed : Frame → unit.Expr → Mark → (pointer index : Scalar) → Act Location
 indexed f e mark pointer index =
-    pointed (tested_at e (at_mark mark)) pointer ▷ (λ l. just (further (counted index *ℤ pos (element_size f.core.structs (type_of e))) l))
+    pointed_location (tested_at e (at_mark mark)) pointer ▷ (λ l. just (moved_location (index_value index *ℤ pos (element_size f.core.structs (type_of e))) l))
 
 abbrev mutual
   -- the value of an expression
   pub evaluate : Frame → unit.Expr → Act Value
-  evaluate f (unit.Constant value type mark) = single (constant value type)
+  evaluate f (unit.Constant value type mark) = just_scalar (constant value type)
   evaluate f (unit.Load object mark) = locate f object ▷ load_object f object
-  evaluate f (unit.Address origin object mark) = locate f object ▷ (λ l. single (Address l.block l.offset))
-  evaluate f (unit.FunctionRef id type by_name mark) = single (Code (Numbered id))
+  evaluate f (unit.Address origin object mark) = locate f object ▷ (λ l. just_scalar (Address l.block l.offset))
+  evaluate f (unit.FunctionRef id type by_name mark) = just_scalar (Code (Numbered id))
   evaluate f (unit.Unary op a mark) =
-      operand a (evaluate f a) ▷ (λ x. unless_undefined (at_mark mark) (applied_unary op (basic_of (form_of_type (type_of a))) x) ▷ single)
+      operand a (evaluate f a) ▷ (λ x. unless_undefined (at_mark mark) (applied_unary op (basic_of (form_of_type (type_of a))) x) ▷ just_scalar)
   evaluate f (unit.Binary op a b mark) =
-      operand a (evaluate f a) ▷ (λ x. operand b (evaluate f b) ▷ (λ y. operated_on f op mark (type_of a) (type_of b) x y ▷ single))
-  evaluate f (unit.Logic op a b mark) = operand a (evaluate f a) ▷ (λ x. logic op (is_true x) (operand b (evaluate f b)) ▷ single)
+      operand a (evaluate f a) ▷ (λ x. operand b (evaluate f b) ▷ (λ y. operated_on f op mark (type_of a) (type_of b) x y ▷ just_scalar))
+  evaluate f (unit.Logic op a b mark) = operand a (evaluate f a) ▷ (λ x. logical_value op (is_true x) (operand b (evaluate f b)) ▷ just_scalar)
   evaluate f (unit.Choice condition a b mark) =
       operand condition (evaluate f condition) ▷ (λ x. chosen (type_of a) a b (is_true x) (evaluate f a) (evaluate f b))
   evaluate f (unit.Convert origin type a mark) = converted_value type a (evaluate f a)

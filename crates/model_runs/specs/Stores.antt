@@ -10,15 +10,16 @@ use Rattle.model_runs.specs.Loads.{overlaps, reached}
 abbrev pub zeros_between : (from to : ℕ) → List Cell
 zeros_between from to = if nat_lt from to then record { offset = from; size = to - from; content = Zeroes } ∷ [] else []
 
-abbrev pub left_by : Content → (offset size : ℕ) → Cell → List Cell
-left_by (Holds scalar) offset size cell = []
-left_by Zeroes offset size cell = zeros_between cell.offset offset ++ zeros_between (offset + size) (cell.offset + cell.size)
+-- the cells that are left of one that these bytes overlap
+abbrev pub left_of_cell : Content → (offset size : ℕ) → Cell → List Cell
+left_of_cell (Holds scalar) offset size cell = []
+left_of_cell Zeroes offset size cell = zeros_between cell.offset offset ++ zeros_between (offset + size) (cell.offset + cell.size)
 
 -- the cells that are left where these bytes are written: a scalar that they overlap is gone whole
 abbrev pub left_of : (offset size : ℕ) → List Cell → List Cell
 left_of offset size [] = []
 left_of offset size (cell ∷ cells) =
-    (if overlaps offset size cell then left_by cell.content offset size cell else cell ∷ []) ++ left_of offset size cells
+    (if overlaps offset size cell then left_of_cell cell.content offset size cell else cell ∷ []) ++ left_of offset size cells
 
 -- a cell that much further on
 abbrev pub moved_by : ℕ → Cell → Cell

@@ -25,23 +25,23 @@ storage_back m.Plainly = refl
 storage_back m.Static = refl
 storage_back m.Extern = refl
 
-abbrev pub put_structure : m.Structure → Gv
+abbrev pub put_structure : m.Structure89 → Gv
 put_structure (m.Tag name) = gcons (gnum 0) (put_text name)
 put_structure (m.Members name first others) = gcons (gnum 1) (gcons (put_text name) (gcons (put_declaration first) (put_declarations others)))
 
-abbrev pub get_structure : Gv → m.Structure
+abbrev pub get_structure : Gv → m.Structure89
 get_structure (gcons (gnum zero) a) = m.Tag (get_text a)
 get_structure (gcons (gnum (suc zero)) (gcons a (gcons b c))) = m.Members (get_text a) (get_declaration b) (get_declarations c)
 get_structure _ = m.Tag (get_text gnil)
 
-pub structure_back : (x : m.Structure) → get_structure (put_structure x) ≡ x
+pub structure_back : (x : m.Structure89) → get_structure (put_structure x) ≡ x
 structure_back (m.Tag name) = λ i. m.Tag (text_back name i)
 structure_back (m.Members name first others) = λ i. m.Members (text_back name i) (declaration_back first i) (declarations_back others i)
 
 abbrev pub coded_storage : Coded m.Storage
 coded_storage = record { code = put_storage; inj = one_to_one put_storage get_storage storage_back }
 
-abbrev pub coded_structure : Coded m.Structure
+abbrev pub coded_structure : Coded m.Structure89
 coded_structure = record { code = put_structure; inj = one_to_one put_structure get_structure structure_back }
 
 abbrev pub coded_outer : Coded m.Outer
@@ -56,5 +56,5 @@ coded_function =
 
 abbrev pub coded_program : Coded m.Program
 coded_program =
-    code_by (List m.Structure × (List m.Outer × List m.Function)) (coded× (coded_list coded_structure) (coded× (coded_list coded_outer) ((coded_list coded_function)))) (λ x. (x.structures, (x.outers, x.functions)))
+    code_by (List m.Structure89 × (List m.Outer × List m.Function)) (coded× (coded_list coded_structure) (coded× (coded_list coded_outer) ((coded_list coded_function)))) (λ x. (x.structures, (x.outers, x.functions)))
     (λ p. record { structures = p.0; outers = p.1.0; functions = p.1.1 }) (λ _. refl)
