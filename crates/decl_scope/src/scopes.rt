@@ -177,8 +177,8 @@ impl Scopes {
         }
     }
 
-    /// The smallest rule that a declaration breaks.
-    fn broken_rule(&self, entry: &Entry) -> Result<Option<u32>, NoMemory>
+    /// The smallest of C01 to C04, C06 and C07 that a declaration would break; none where it may stand.
+    pub fn broken_rule(&self, entry: &Entry) -> Result<Option<u32>, NoMemory>
         ensures { IfOk result (λ found. found ≡ r.broken_rule entry.now self.now) }
     {
         let standing = self.declared_as(self.innermost.get(entry.is_tag(), entry.name.as_slice()));
