@@ -1,2 +1,4 @@
+pub mod Answers
 pub mod Broken
 pub mod Meanings
+pub mod Turns

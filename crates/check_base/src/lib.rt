@@ -7,5 +7,8 @@ mod faults;
 mod meanings;
 
 pub use errors::CheckError;
-pub use faults::{constraint, wants};
+pub use faults::{
+    comes_first, constraint, fault_at, fault_if, first_fault, first_of_faults, refusal_beside,
+    wants,
+};
 pub use meanings::{Meaning, Operand, OperandValue};

@@ -1,3 +1,2 @@
 pub mod PlacedLaws
 pub mod ItemLaws
-pub mod TypeTests

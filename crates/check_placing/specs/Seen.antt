@@ -1,6 +1,5 @@
 -- What is placed, as it stands for what the definition places.
-use Rattle.std.specs.Prelude.{List, [], ◌∷◌, Option, Some, None}
-use Rattle.cake_base.specs.declared.places.Place.{Place}
+use Rattle.std.specs.Prelude.{List, [], ◌∷◌}
 use Rattle.model_checking.specs.Placing as p
 use Rattle.check_base.specs.Meanings.{value_in}
 use Rattle.check_placing.specs.declared.placed.Content.{Content}

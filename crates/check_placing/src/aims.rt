@@ -93,9 +93,7 @@ pub fn aimed(
         way,
     ) {
         Ok(()) => aimed_from(alloc, structs, object, given, way),
-        Err(CheckError::Fault(fault)) => Err(CheckError::Fault(with_own(
-            alloc, structs, given, fault,
-        )?)),
+        Err(CheckError::Fault(fault)) => Err(CheckError::Fault(with_own(structs, given, fault))),
         Err(CheckError::Limit(hit)) => Err(CheckError::Limit(hit)),
         Err(CheckError::NotBuilt(place)) => Err(CheckError::NotBuilt(place)),
         Err(CheckError::NoMemory) => Err(CheckError::NoMemory),

@@ -167,10 +167,10 @@ fn place_list(
     Ok(())
 }
 
-fn not_whole(alloc: Global, structs: &Structs, given: &GivenForm) -> Result<Fault, NoMemory>
-    ensures { IfOk result (λ fault. fault ≡ p.with_own structs.now (given_of given.now) (constraint_at (p.given_first (given_of given.now)) 35)) }
+fn not_whole(structs: &Structs, given: &GivenForm) -> Fault
+    ensures { result ≡ p.with_own structs.now (given_of given.now) (constraint_at (p.given_first (given_of given.now)) 35) }
 {
-    with_own(alloc, structs, given, constraint(given_first(given), 35))
+    with_own(structs, given, constraint(given_first(given), 35))
 }
 
 /// What an object's initializer is for, in the order of the source, up to the first of C33, C34 and C35 or of the faults
@@ -185,7 +185,7 @@ pub fn placement(
 {
     let mut placed = PlacedList::new(alloc);
     if !fits_whole(alloc, object, given.form())? {
-        let fault = not_whole(alloc, structs, given.form())?;
+        let fault = not_whole(structs, given.form());
         return Ok(Placement {
             placed,
             fault: Some(fault),

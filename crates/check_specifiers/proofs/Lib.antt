@@ -1,2 +1,7 @@
 mod OwnershipLaws
 mod StorageLaws
+mod KeywordLaws
+mod NamedTypes
+mod CombinationLaws
+mod QualifierLaws
+mod NearestLaws

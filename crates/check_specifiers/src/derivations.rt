@@ -7,11 +7,11 @@ ghost use Rattle.model_checking.specs.DeclaratorTypes as m;
 ghost use Rattle.model_checking.specs.Derivations.{an_array, a_faulty_array};
 ghost use Rattle.check_specifiers.specs.Typings.{typing_of};
 
-use crate::faults::{constraint, fault_if};
 use crate::forms::{is_function, is_value_type};
 use crate::qualifiers::{qualified, qualifier_fault};
 use c_types::{CType, Structs, TypeForm, TypeList, is_complete, size_of};
 use cake_base::{Fault, NoMemory, Place};
+use check_base::{constraint, fault_if};
 use check_types::{plain, pointer_to};
 use model_grammar::syntax::Qualifier;
 use std::alloc::Global;

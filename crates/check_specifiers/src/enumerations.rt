@@ -6,9 +6,9 @@ ghost use Rattle.model_checking.specs.Enumerations as m;
 ghost use Rattle.model_checking.specs.SpecifierTypes as s;
 ghost use Rattle.check_specifiers.specs.EnumerationTypes.{enumeration_of};
 
-use crate::faults::fault_if;
 use c_types::{Basic, CType, TypeForm, fits};
 use cake_base::{Fault, NoMemory, Place};
+use check_base::fault_if;
 use check_types::{basic_of, plain, unqualified};
 use model_grammar::syntax::{Name, TypeofWord};
 use std::alloc::Global;

@@ -1,12 +1,13 @@
 //! Qualifiers put on a type (ISO/IEC 9899:2024, 6.7.4.1), those of ownership among them.
 ghost use Rattle.std.specs.Prelude.{◌≡◌, ◌&&◌, ◌||◌, not, IfOk};
 ghost use Rattle.model_core.specs.CoreTypes.{no_quals};
+ghost use Rattle.model_checking.specs.FaultsBeside.{fault_at};
 ghost use Rattle.model_checking.specs.Qualified as m;
 
-use crate::faults::fault_at;
 use crate::forms::is_object_pointer;
 use c_types::{CType, Quals, TypeForm};
 use cake_base::{Fault, NoMemory, Place};
+use check_base::fault_at;
 use model_grammar::syntax::{Qualifier, QualifierWord};
 use std::alloc::Global;
 
@@ -133,6 +134,20 @@ fn wants_pointer(quals: Quals) -> bool
     quals.has_owner || quals.has_opt
 }
 
+/// Whether a list has `_Owner` or `_Opt`, which qualify pointers to objects alone.
+pub(crate) fn wants_pointer_alone(list: &[Qualifier]) -> bool
+    ensures { result ≡ m.wants_pointer (m.with_all list.now no_quals) }
+{
+    wants_pointer(with_all(list, NO_QUALS))
+}
+
+/// C29 at the first qualifier of ownership in a list.
+pub(crate) fn misplaced_alone(list: &[Qualifier]) -> Option<Fault>
+    ensures { result ≡ fault_at (m.ownership_place list.now) 29 }
+{
+    fault_at(ownership_place(list), MISPLACED_OWNERSHIP)
+}
+
 /// Whether the qualifiers can't qualify a type that is no array and has others already.
 fn cannot_qualify(list: &[Qualifier], quals: Quals, is_pointer: bool) -> bool
     ensures { result ≡ (m.wants_pointer (m.with_all list.now no_quals) && not is_pointer || m.do_meet (m.with_all list.now quals)) }
@@ -163,7 +178,7 @@ pub fn qualifier_fault(list: &[Qualifier], ty: &CType) -> Option<Fault>
     ensures { result ≡ m.qualifier_fault list.now ty.now }
 {
     if is_misplaced(list, ty) {
-        fault_at(ownership_place(list), MISPLACED_OWNERSHIP)
+        misplaced_alone(list)
     } else {
         None
     }
@@ -174,7 +189,7 @@ pub fn meeting_fault(list: &[Qualifier]) -> Option<Fault>
     ensures { result ≡ m.meeting_fault list.now }
 {
     if do_meet(with_all(list, NO_QUALS)) {
-        fault_at(ownership_place(list), MISPLACED_OWNERSHIP)
+        misplaced_alone(list)
     } else {
         None
     }

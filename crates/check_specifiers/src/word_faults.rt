@@ -7,12 +7,12 @@ ghost use Rattle.model_checking.specs.SpecifierWords as m;
 ghost use Rattle.check_specifiers.specs.Contexts.{context_of};
 
 use crate::contexts::{Context, takes_word};
-use crate::faults::fault_at;
 use crate::words::{
     has_auto_word, has_static_word, has_type_specifier, inline_place, place_of_word,
 };
 use c_tree::Spec;
 use cake_base::{Fault, Place};
+use check_base::fault_at;
 
 /// A word of storage isn't allowed where the list stands, or `inline` stands without `static`.
 const REFUSED_STORAGE: u32 = 48;
@@ -72,7 +72,7 @@ fn lacks_type(specs: &[Spec]) -> bool
     !has_type_specifier(specs) && !has_auto_word(specs)
 }
 
-fn first_place(specs: &[Spec]) -> Option<Place>
+pub(crate) fn first_place(specs: &[Spec]) -> Option<Place>
     ensures { result ≡ m.first_place (w.words_of (specs_items specs.now)) }
 {
     match specs.split_first() {

@@ -1,0 +1,4 @@
+pub mod Seen
+pub mod Designated
+pub mod Rules
+pub mod Constness

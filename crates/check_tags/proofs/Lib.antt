@@ -1,0 +1,4 @@
+mod TurnLaws
+mod TagLaws
+mod EnumLaws
+mod VoidLaws

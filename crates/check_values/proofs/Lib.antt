@@ -1,0 +1,3 @@
+pub mod TypeTests
+pub mod ConversionLaws
+pub mod ValueLaws

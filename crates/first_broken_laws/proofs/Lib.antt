@@ -1,0 +1,17 @@
+pub mod PairLaws
+pub mod Operands
+pub mod UnaryLaws
+pub mod BinaryLaws
+pub mod TypeFacts
+pub mod NullFacts
+pub mod ComparisonLaws
+pub mod OperationLaws
+pub mod ConversionLaws
+pub mod AssignLaws
+pub mod CallLaws
+pub mod ChoiceLaws
+pub mod Parts
+pub mod Standing
+pub mod NameLaws
+pub mod OperandParts
+pub mod WholeExpressions

@@ -1,0 +1,12 @@
+pub mod ExpressionForms
+pub mod ArgumentForms
+pub mod EnumerationForms
+pub mod SpecifierForms
+pub mod GivenForms
+pub mod PlacedForms
+pub mod FittedForms
+pub mod ValueForms
+pub mod LiteralForms
+pub mod WholeTrees
+pub mod OrderedCores
+pub mod PublicLaws
