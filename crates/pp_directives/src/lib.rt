@@ -6,7 +6,6 @@ mod candidates;
 mod control;
 mod errors;
 mod lines;
-mod lists;
 mod log;
 mod marks;
 mod options;
@@ -14,14 +13,12 @@ mod output;
 mod rules;
 mod search;
 mod taking;
-#[cfg(test)]
-mod tests;
 mod unit;
 mod whole;
 
 pub use errors::PrepError;
-pub use lists::{Marks, Notes};
 pub use log::PrepLog;
 pub use model_preprocessing::directives::ReadCause;
 pub use options::Options;
+pub use pp_lists::{Marks, Notes};
 pub use whole::{Prep, preprocess};

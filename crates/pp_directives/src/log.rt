@@ -1,8 +1,8 @@
 //! What preprocessing tells besides its answer.
 ghost use Rattle.std.specs.Prelude.{◌≡◌, [], ◌∷◌, ◌++◌, length, slice_get, option_copied, OnOk, OnErr};
 
-use crate::lists::Notes;
 use cake_base::{FileName, NoMemory, Note};
+use pp_lists::Notes;
 use std::alloc::Global;
 use std::marker::Model;
 

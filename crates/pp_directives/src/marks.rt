@@ -2,8 +2,8 @@
 ghost use Rattle.std.specs.Prelude.{◌≡◌, ◌++◌, ◌∷◌, [], OnOk};
 ghost use Rattle.model_preprocessing.specs.Pragmas as pragmas;
 
-use crate::lists::Marks;
 use cake_base::{Act, Mark, NoMemory};
+use pp_lists::Marks;
 use std::alloc::Global;
 use std::marker::Model;
 

@@ -7,7 +7,6 @@ ghost use Rattle.model_preprocessing.specs.Sources as spec;
 ghost use Rattle.pp_directives.specs.Replaced.{Replaced};
 
 use crate::errors::PrepError;
-use crate::lists::Marks;
 use crate::log::PrepLog;
 use crate::marks::OpenMarks;
 use crate::options::Options;
@@ -15,6 +14,7 @@ use crate::output::{Output, standing};
 use c_tokens::PpList;
 use cake_base::{Bytes, FileName, NoMemory, Place};
 use pp_lines::{FileNumbers, Sources};
+use pp_lists::Marks;
 use pp_macros::{MacroTable, Work, expand};
 use std::alloc::Global;
 use std::marker::Model;

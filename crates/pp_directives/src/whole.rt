@@ -10,7 +10,6 @@ ghost use Rattle.pp_directives.specs.Reads.{Answers};
 
 use crate::errors::PrepError;
 use crate::lines::translate;
-use crate::lists::Marks;
 use crate::log::PrepLog;
 use crate::options::Options;
 use crate::unit::{Unit, first_log};
@@ -18,6 +17,7 @@ use c_tokens::PpList;
 use cake_base::{Files, NoMemory, Place, ReadFault};
 use model_preprocessing::directives::ReadCause;
 use model_preprocessing::positions::Position;
+use pp_lists::Marks;
 use std::alloc::Global;
 use std::marker::Model;
 

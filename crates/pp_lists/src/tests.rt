@@ -1,5 +1,5 @@
 //! Notes come back in the order in which they were pushed.
-use super::*;
+use crate::Notes;
 use cake_base::{Bytes, Note, Place};
 use std::test::Fail;
 
