@@ -1,0 +1,4 @@
+pub mod FlatParts
+pub mod FlatForms
+pub mod FlatExpressions
+pub mod FlatPrograms

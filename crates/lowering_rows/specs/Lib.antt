@@ -1,0 +1,4 @@
+pub mod SampleNames
+pub mod EachOperator
+pub mod EachStatement
+pub mod WrongPrograms

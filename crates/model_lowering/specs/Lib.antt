@@ -1,0 +1,10 @@
+pub mod TextValues
+pub mod Steps
+pub mod PartPlaces
+pub mod FlatExpressions
+pub mod LowStatements
+pub mod StaticInits
+pub mod UsedNames
+pub mod TextNames
+pub mod LoweredUnit
+pub mod Lowered
