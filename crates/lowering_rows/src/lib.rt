@@ -4,4 +4,5 @@
 pub mod each_operator;
 pub mod each_statement;
 pub mod known_units;
+pub mod worked_units;
 pub mod wrong_programs;
