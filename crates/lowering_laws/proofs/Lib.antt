@@ -2,3 +2,4 @@ pub mod FlatParts
 pub mod FlatForms
 pub mod FlatExpressions
 pub mod FlatPrograms
+pub mod KeptNames
