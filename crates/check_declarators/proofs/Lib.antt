@@ -1,0 +1,2 @@
+mod DeclaredLaws
+pub mod StepLaws

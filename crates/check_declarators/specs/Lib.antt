@@ -1,0 +1,2 @@
+pub mod DeclaredViews
+pub mod Steps
