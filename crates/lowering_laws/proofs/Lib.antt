@@ -3,3 +3,5 @@ pub mod FlatForms
 pub mod FlatExpressions
 pub mod FlatPrograms
 pub mod KeptNames
+pub mod SameTypes
+pub mod ValueTypes

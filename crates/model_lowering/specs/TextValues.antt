@@ -17,7 +17,7 @@ use Rattle.c_model.specs.WrittenType.{StructNames, written_value}
 
 -- ---- the same type
 
-abbrev same_count : Option ℕ → Option ℕ → Bool
+abbrev pub same_count : Option ℕ → Option ℕ → Bool
 same_count None None = true
 same_count (Some count) (Some other) = nat_eq count other
 same_count count other = false
