@@ -5,3 +5,5 @@ pub mod FlatPrograms
 pub mod KeptNames
 pub mod SameTypes
 pub mod ValueTypes
+pub mod FreeNumbers
+pub mod NumberedNames
