@@ -7,3 +7,7 @@ pub mod SameTypes
 pub mod ValueTypes
 pub mod FreeNumbers
 pub mod NumberedNames
+pub mod DifferentNames
+pub mod StructureNames
+pub mod MemberNames
+pub mod TemporaryNames

@@ -1,1 +1,2 @@
 pub mod Storages
+pub mod Numbers

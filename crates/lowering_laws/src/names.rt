@@ -1,9 +1,12 @@
 //! Laws of the names of texts.
-ghost use Rattle.std.specs.Prelude.{◌≡◌, ◌<◌, ◌+◌, ◌^◌, ℕ, true, false, List, length, Some, None};
+ghost use Rattle.std.specs.Prelude.{◌≡◌, ◌<◌, ◌≤◌, ◌+◌, ◌^◌, ℕ, true, false, List, length, Some, None, codes};
 ghost use Rattle.model_core.specs.Core.{Core, DeclaredObject, Function, Named, object_of, function_by_id};
-ghost use Rattle.model_lowering.specs.TextNames.{naming_of, made, numbered, free_from};
+ghost use Rattle.model_lowering.specs.TextNames.{naming_of, external_names, made, made_number, numbered, free_from};
 ghost use Rattle.model_c89.specs.Names89.{is_among};
 ghost use Rattle.lowering_laws.specs.Storages.{IsNoText};
+ghost use Rattle.lowering_laws.specs.Numbers.{behind_structures, behind_members};
+ghost use Rattle.model_types.specs.declared.types.StructId.{StructId};
+ghost use Rattle.model_types.specs.Structures.{Member, members_of};
 
 /// An external function keeps its name.
 #[tactic(auto, using(crate::proofs::KeptNames::function_keeps_name))]
@@ -37,4 +40,25 @@ pub fn made_name_is_not_external()
 #[tactic(auto, using(crate::proofs::NumberedNames::numbers_differ))]
 pub fn names_tell_their_numbers()
     ensures { (front other : List ℕ) (m n : ℕ) → m < 2 ^ 64 → n < 2 ^ 64 → numbered front m ≡ numbered other n → m ≡ n }
+{}
+
+/// Structures of a unit have different names.
+#[tactic(auto, using(crate::proofs::StructureNames::structures_differ))]
+pub fn structures_have_different_names()
+    ensures { (core : Core) (id : StructId) (other : StructId) → behind_structures core ≤ 2 ^ 64 → id.0 < length core.structs → other.0 < length core.structs →
+        (naming_of core).structure id ≡ (naming_of core).structure other → id ≡ other }
+{}
+
+/// Members of one structure have different names.
+#[tactic(auto, using(crate::proofs::MemberNames::members_differ))]
+pub fn members_have_different_names()
+    ensures { (core : Core) (id : StructId) (members : List Member) (rank : ℕ) (other : ℕ) → behind_members core ≤ 2 ^ 64 → members_of core.structs id ≡ Some members →
+        rank < length members → other < length members → (naming_of core).member id rank ≡ (naming_of core).member id other → rank ≡ other }
+{}
+
+/// Temporaries have different names.
+#[tactic(auto, using(crate::proofs::TemporaryNames::temporaries_differ))]
+pub fn temporaries_have_different_names()
+    ensures { (core : Core) (count : ℕ) (number : ℕ) (other : ℕ) → made_number (external_names core) (codes "cake_t") count ≤ 2 ^ 64 → number < count → other < count →
+        (naming_of core).temporary number ≡ (naming_of core).temporary other → number ≡ other }
 {}
