@@ -11,3 +11,6 @@ pub mod DifferentNames
 pub mod StructureNames
 pub mod MemberNames
 pub mod TemporaryNames
+pub mod ListedNames
+pub mod UnitNames
+pub mod ApartNames

@@ -1,2 +1,3 @@
 pub mod Storages
 pub mod Numbers
+pub mod Wishes

@@ -4,7 +4,8 @@ ghost use Rattle.model_core.specs.Core.{Core, DeclaredObject, Function, Named, o
 ghost use Rattle.model_lowering.specs.TextNames.{naming_of, external_names, made, made_number, numbered, free_from};
 ghost use Rattle.model_c89.specs.Names89.{is_among};
 ghost use Rattle.lowering_laws.specs.Storages.{IsNoText};
-ghost use Rattle.lowering_laws.specs.Numbers.{behind_structures, behind_members};
+ghost use Rattle.lowering_laws.specs.Numbers.{behind_declared, behind_structures, behind_members};
+ghost use Rattle.lowering_laws.specs.Wishes.{AreGood, KeptApart, wishes_of, is_declared};
 ghost use Rattle.model_types.specs.declared.types.StructId.{StructId};
 ghost use Rattle.model_types.specs.Structures.{Member, members_of};
 
@@ -61,4 +62,20 @@ pub fn members_have_different_names()
 pub fn temporaries_have_different_names()
     ensures { (core : Core) (count : ℕ) (number : ℕ) (other : ℕ) → made_number (external_names core) (codes "cake_t") count ≤ 2 ^ 64 → number < count → other < count →
         (naming_of core).temporary number ≡ (naming_of core).temporary other → number ≡ other }
+{}
+
+/// Objects and functions have different names, where those that are kept are external or those of strings, and are different.
+#[tactic(auto, using(crate::proofs::UnitNames::declared_differ))]
+pub fn objects_and_functions_have_different_names()
+    ensures { (core : Core) (id : ℕ) (other : ℕ) → behind_declared core + length (external_names core) < 2 ^ 64 → AreGood (external_names core) (wishes_of core) →
+        KeptApart (wishes_of core) → is_declared core id ≡ true → is_declared core other ≡ true →
+        (naming_of core).declared id ≡ (naming_of core).declared other → id ≡ other }
+{}
+
+/// No object and no function has the name of a temporary.
+#[tactic(auto, using(crate::proofs::ApartNames::declared_is_no_temporary))]
+pub fn objects_and_functions_are_no_temporaries()
+    ensures { (core : Core) (id : ℕ) (number : ℕ) → behind_declared core + length (external_names core) < 2 ^ 64 →
+        made_number (external_names core) (codes "cake_t") number + length (external_names core) < 2 ^ 64 → AreGood (external_names core) (wishes_of core) →
+        is_declared core id ≡ true → (naming_of core).declared id ≡ (naming_of core).temporary number → ⊥ }
 {}
